@@ -1,0 +1,15 @@
+use mathlib.Core.Path.{ap, _∙_}
+use mathlib.Core.List.{map, append-nil}
+use native.Mathlib.Omega.{arith}
+use lib.ListN.{set}
+use Rattle.std.proofs.shelf.Lists.{take-all, drop-all}
+use Rattle.std.proofs.shelf.Edits.{map-over-more}
+use borrow.Author.Needs.{needs}
+use Rattle.row_memory.specs.Row.{struck}
+use Rattle.row_memory.proofs.methods.strike_all.Needs as need
+
+pub loop-i-again : need.loop-i-again
+loop-i-again c = (c .told-marks, search (needs, map-over-more (struck (c .args .cell))))
+
+pub returns : need.returns
+returns c = c .loop-i .inv .1 ∙ search (needs, take-all, drop-all, append-nil)
