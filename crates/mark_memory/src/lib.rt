@@ -8,6 +8,7 @@ mod methods;
 pub use methods::Marks;
 
 /// A slot memory that accepts every live store.
+#[derive(Drop)]
 pub struct MarkMemory<'a, E: Copy> {
     slots: Lent<'a, E>,
     tail: u32,

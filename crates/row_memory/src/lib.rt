@@ -17,6 +17,7 @@ pub struct RowMark {
 }
 
 /// A slot memory that refuses the live stores on spoilt marks.
+#[derive(Drop)]
 pub struct RowMemory<'a, E: Copy> {
     slots: Lent<'a, E>,
     tail: u32,

@@ -11,6 +11,7 @@ ghost use Rattle.slot_memory.specs.Lent.{contents, used};
 const MOST: usize = 1025;
 
 /// A row of slots, lent by the caller.
+#[derive(Drop)]
 pub struct Lent<'a, E: Copy> {
     /// The whole row; only the first 1,025 count.
     row: &'a mut [Option<E>],
