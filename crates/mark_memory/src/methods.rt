@@ -21,13 +21,7 @@ fn unless_on(mark: Option<Cell>, cell: Cell) -> Option<Cell>
     ensures { λ r. ⌜ r ≡ unlessOn cell mark ⌝ }
 {
     match mark {
-        Some(on) => {
-            if on.is(cell) {
-                None
-            } else {
-                mark
-            }
-        }
+        Some(on) => { if on.is(cell) { None } else { mark } }
         None => None,
     }
 }
@@ -73,7 +67,12 @@ impl<'a, E: Copy> MarkMemory<'a, E> {
     }
 }
 
-fn store_slot<E: Copy>(memory: &mut MarkMemory<'_, E>, bay: Bay, slot: u32, content: Option<E>) -> Stored
+fn store_slot<E: Copy>(
+    memory: &mut MarkMemory<'_, E>,
+    bay: Bay,
+    slot: u32,
+    content: Option<E>,
+) -> Stored
     ensures { λ r. ⌜ Accepts (meaningOf (now (memory .entry))) (Store bay (InSlot slot content)) (Verdict r) (meaningOf (now (memory .exit))) ⌝ }
 {
     if bay >= 16 || slot >= memory.slots.len() {

@@ -38,7 +38,10 @@ where
         Step::Index(bay, index, due) => check_eq(memory.mark_index(bay, index), due),
         Step::Fill(bay, slot, element, due) => check_eq(memory.fill_slot(bay, slot, element), due),
         Step::Empty(bay, slot, due) => check_eq(memory.empty_slot(bay, slot), due),
-        Step::Store(bay, index, number, due) => check_eq(memory.store_index(bay, index, number), due),
+        Step::Store(bay, index, number, due) => check_eq(
+            memory.store_index(bay, index, number),
+            due,
+        ),
     }
 }
 

@@ -16,9 +16,17 @@ use visit::VisitPartialEq;
 
 const TOP: u32 = 4294967295;
 
-const EARLY: Visit = Visit { guard: 1, checkpoint: 2, minute: 0 };
+const EARLY: Visit = Visit {
+    guard: 1,
+    checkpoint: 2,
+    minute: 0,
+};
 
-const LATE: Visit = Visit { guard: 1, checkpoint: 2, minute: 1439 };
+const LATE: Visit = Visit {
+    guard: 1,
+    checkpoint: 2,
+    minute: 1439,
+};
 
 // What every memory answers, whatever its length: `last` is its last slot, and `past` one further.
 fn common<E: Copy>(last: u32, past: u32, a: E, b: E) -> [Step<E>; 30] {
@@ -104,18 +112,33 @@ fn one_slot() -> Result<(), Fail> {
     run(&mut MarkMemory::new(&mut words), &common(0, 1, 5u32, 6))?;
     run(&mut RowMemory::new(&mut words), &common(0, 1, 5u32, 6))?;
     let mut visits = [Some(LATE); 1];
-    run(&mut MarkMemory::new(&mut visits), &common(0, 1, EARLY, LATE))?;
+    run(
+        &mut MarkMemory::new(&mut visits),
+        &common(0, 1, EARLY, LATE),
+    )?;
     run(&mut RowMemory::new(&mut visits), &common(0, 1, EARLY, LATE))
 }
 
 #[test]
 fn most_slots(rt: LibcRuntime) -> Result<(), Fail> {
     let mut words = vec![in rt.alloc(); Some(77u32); 1030]?;
-    run(&mut MarkMemory::new(words.as_mut_slice()), &common(1024, 1025, 5u32, 6))?;
-    run(&mut RowMemory::new(words.as_mut_slice()), &common(1024, 1025, 5u32, 6))?;
+    run(
+        &mut MarkMemory::new(words.as_mut_slice()),
+        &common(1024, 1025, 5u32, 6),
+    )?;
+    run(
+        &mut RowMemory::new(words.as_mut_slice()),
+        &common(1024, 1025, 5u32, 6),
+    )?;
     let mut visits = vec![in rt.alloc(); Some(LATE); 1025]?;
-    run(&mut MarkMemory::new(visits.as_mut_slice()), &common(1024, 1025, EARLY, LATE))?;
-    run(&mut RowMemory::new(visits.as_mut_slice()), &common(1024, 1025, EARLY, LATE))
+    run(
+        &mut MarkMemory::new(visits.as_mut_slice()),
+        &common(1024, 1025, EARLY, LATE),
+    )?;
+    run(
+        &mut RowMemory::new(visits.as_mut_slice()),
+        &common(1024, 1025, EARLY, LATE),
+    )
 }
 
 // How many of so many lent slots each memory uses.
@@ -127,7 +150,15 @@ fn lengths_of(rt: &LibcRuntime, lent: usize, due: u32) -> Result<(), Fail> {
 
 #[test]
 fn lengths(rt: LibcRuntime) -> Result<(), Fail> {
-    for (lent, due) in [(0, 0), (1, 1), (1023, 1023), (1024, 1024), (1025, 1025), (1026, 1025), (4000, 1025)] {
+    for (lent, due) in [
+        (0, 0),
+        (1, 1),
+        (1023, 1023),
+        (1024, 1024),
+        (1025, 1025),
+        (1026, 1025),
+        (4000, 1025),
+    ] {
         lengths_of(&rt, lent, due)?;
     }
     Ok(())
@@ -136,9 +167,18 @@ fn lengths(rt: LibcRuntime) -> Result<(), Fail> {
 #[test]
 fn slots_in_rows() -> Result<(), Fail> {
     let mut words = [None; 8];
-    run(&mut MarkMemory::new(&mut words), &neighbours(5u32, Accepted))?;
+    run(
+        &mut MarkMemory::new(&mut words),
+        &neighbours(5u32, Accepted),
+    )?;
     run(&mut RowMemory::new(&mut words), &neighbours(5u32, Refused))?;
     let mut visits = [None; 8];
-    run(&mut MarkMemory::new(&mut visits), &neighbours(EARLY, Accepted))?;
-    run(&mut RowMemory::new(&mut visits), &neighbours(EARLY, Refused))
+    run(
+        &mut MarkMemory::new(&mut visits),
+        &neighbours(EARLY, Accepted),
+    )?;
+    run(
+        &mut RowMemory::new(&mut visits),
+        &neighbours(EARLY, Refused),
+    )
 }

@@ -37,7 +37,7 @@ module _ {E : Type 0} (m : RowMemory E) (sixteen : length (m .marks) ≡ 16) whe
   stored-marks b c accepted = cond accepted (map (struck c) (m .marks)) (set (m .marks) b None)
 
   may-store : (b : ℕ) (c : Cell) (l s : Bool) → b < 16 → live (meaningOf m) b c ≡ l → balks m b ≡ s → MayStore 15 (meaningOf m) l (record { refuse = s; spare = spoiltIn (stored-marks b c (l && not s)) })
-  may-store b c true true h on spoilt = 
+  may-store b c true true h on spoilt =
       let one : worth (getD (m .marks) b None) ≡ 1 = ap counted spoilt in
       omega (arith, spoilt-set (m .marks) b None (omega arith))
   may-store b c true false h on spoilt = accepted-spare b c h (ap (isOn c) (sym (marked-cell (m .marks) b)) ∙ on)
@@ -55,6 +55,7 @@ module _ {E : Type 0} (m : RowMemory E) (sixteen : length (m .marks) ≡ 16) whe
     where
       accepted : Bool
       accepted = live (meaningOf m) b (target w) && not (balks m b)
+
       go : (k : Bool) → known (meaningOf m) b (target w) ≡ k → When k (MayStore 15 (meaningOf m) (live (meaningOf m) b (target w)) (record { refuse = balks m b; spare = spoiltIn (cond k (stored-marks b (target w) accepted) (m .marks)) })) (Unit {0})
       go true e = may-store b (target w) (live (meaningOf m) b (target w)) (balks m b) (ltb-true b 16 (and-parts (ltb b 16) _ e .0)) refl refl
       go false e = tt

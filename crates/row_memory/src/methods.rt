@@ -38,7 +38,10 @@ fn strike(mark: Option<RowMark>, cell: Cell) -> Option<RowMark>
             if on.cell.is(cell) {
                 None
             } else if same_row(on.cell, cell) {
-                Some(RowMark { cell: on.cell, spoilt: true })
+                Some(RowMark {
+                    cell: on.cell,
+                    spoilt: true,
+                })
             } else {
                 mark
             }
@@ -90,7 +93,12 @@ impl<'a, E: Copy> RowMemory<'a, E> {
     }
 }
 
-fn store_slot<E: Copy>(memory: &mut RowMemory<'_, E>, bay: Bay, slot: u32, content: Option<E>) -> Stored
+fn store_slot<E: Copy>(
+    memory: &mut RowMemory<'_, E>,
+    bay: Bay,
+    slot: u32,
+    content: Option<E>,
+) -> Stored
     ensures rules { λ r. ⌜ Keeps 15 (meaningOf (now (memory .entry))) (Store bay (InSlot slot content)) (Verdict r) (meaningOf (now (memory .exit))) ⌝ }
     ensures exact { λ r. ⌜ Balks (now (memory .entry)) (Store bay (InSlot slot content)) (Verdict r) (now (memory .exit)) ⌝ }
 {
@@ -137,7 +145,10 @@ pub impl<'a, E: Copy> SlotMemory for RowMemory<'a, E> as Rows {
         if bay >= 16 || slot >= self.slots.len() {
             return None;
         }
-        self.marks[bay as usize] = Some(RowMark { cell: Cell::Slot(slot), spoilt: false });
+        self.marks[bay as usize] = Some(RowMark {
+            cell: Cell::Slot(slot),
+            spoilt: false,
+        });
         self.slots.get(slot)
     }
 
@@ -145,7 +156,10 @@ pub impl<'a, E: Copy> SlotMemory for RowMemory<'a, E> as Rows {
         if bay >= 16 {
             return 0;
         }
-        self.marks[bay as usize] = Some(RowMark { cell: Cell::At(index), spoilt: false });
+        self.marks[bay as usize] = Some(RowMark {
+            cell: Cell::At(index),
+            spoilt: false,
+        });
         self.read(index)
     }
 
