@@ -1,0 +1,6 @@
+pub mod Words
+pub mod Lines
+pub mod Calls
+pub mod History
+pub mod Law
+pub mod Runs
