@@ -1,3 +1,11 @@
 pub mod Wrap
 pub mod Ring
+pub mod Shared
 pub mod Sound
+pub mod Stages
+pub mod Sums
+pub mod Knows
+pub mod Placing
+pub mod Changes
+pub mod Invariant
+pub mod Moments

@@ -1,0 +1,134 @@
+-- What holds of every reached history and state. Assumes nothing.
+--
+--   weight    of a serial: how often it may still be placed, or has been; at most once
+use mathlib.Core.Path.{_≡_, refl, sym, ap, subst, _∙_}
+use mathlib.Core.Bool.{Bool, true, false, cond}
+use mathlib.Core.List.{List, [], _∷_}
+use Prim.Native.Nat.{ℕ, suc, _+_, _%_, _^_, _<_, _≤_}
+use lib.Dec.{eqb, ltb, leb}
+use lib.ListN.{length, getD}
+use Rattle.std.specs.Finite.{nth}
+use Rattle.std.specs.Options.{isSome}
+use Rattle.std.specs.declared.option.Option.{Option}
+use Rattle.std.specs.declared.option.Option.the-variants.{Some, None}
+use Rattle.slot_memory.specs.declared.Cell.{Cell}
+use Rattle.slot_memory.specs.Meaning.{index, mark}
+use Rattle.dock_rules.specs.declared.Attempt.{Attempt}
+use Rattle.dock_rules.specs.declared.BayRecord.{BayRecord}
+use Rattle.dock_rules.specs.declared.BayRecord.the-variants.{Free as Idle, UnderWay, Ended, Owed}
+use Rattle.dock_rules.specs.Words.{Side, Putting, Taking, side, number}
+use Rattle.dock_rules.specs.Lines.{wrap}
+use Rattle.dock_rules.specs.Calls.{recordOf, mostLifetime}
+use Rattle.dock_rules.specs.History.{Moment, Request, PutOf, TakeOf, Running, Placed, indexIn, alterations, running, waiting, placed, untouched}
+use Rattle.dock_rules.specs.Law.{Each, places, Linearizable}
+use Rattle.dock_rules.specs.Runs.{Start, State}
+use Rattle.dock_rules.proofs.Sound.{own}
+use Rattle.dock_rules.proofs.Stages.{Stage, S5, S6, S9, S10, S12, S13, S15, S16, S17, stage}
+use Rattle.dock_rules.proofs.Sums.{sumTo}
+use Rattle.dock_rules.proofs.Knows.{View, count, wait, pos, Stands}
+use Rattle.dock_rules.proofs.Changes.{Sharing}
+
+-- what the index says counts from the second line on
+abbrev pub Noted : Stage → Type 0 → Type 0
+Noted S5 P = Unit {0}
+Noted S6 P = P
+Noted S9 P = P
+Noted S10 P = P
+Noted S12 P = P
+Noted S13 P = P
+Noted S15 P = P
+Noted S16 P = P
+Noted S17 P = P
+
+-- 1 for a call whose slot store is still to come
+abbrev pub early : BayRecord → ℕ
+early Idle = 0
+early (UnderWay a) = cond (ltb (number (a .line)) 16) 1 0
+early (Ended s o) = 0
+early (Owed s) = 0
+
+abbrev pub earlyBy : ℕ → BayRecord → ℕ
+earlyBy x Idle = 0
+earlyBy x (UnderWay a) = cond (eqb (a .serial) x) (cond (ltb (number (a .line)) 16) 1 0) 0
+earlyBy x (Ended s o) = 0
+earlyBy x (Owed s) = 0
+
+module _ {E : Type 0} where
+  abbrev pub sideOf : Request E → Side
+  sideOf (PutOf e) = Putting
+  sideOf TakeOf = Taking
+
+  -- the tray of a put under way holds its element
+  abbrev pub TrayOf : Request E → Option E → Type 0
+  TrayOf (PutOf e) tr = tr ≡ Some e
+  TrayOf TakeOf tr = isSome tr ≡ true
+
+  abbrev pub hits : ℕ → List (Running E) → ℕ
+  hits x [] = 0
+  hits x (r ∷ rs) = cond (eqb (r .serial) x) 1 0 + hits x rs
+
+  module _ (L base : ℕ) where
+    pub record Stood (v : View E) (now : ℕ) (r : Running E) (a : Attempt) (mk : Option Cell) (tr : Option E) : Type 0 where
+      pub serial : r .serial ≡ a .serial
+      pub line : r .line ≡ a .line
+      pub index : Noted (stage (a .line)) (a .index ≡ wrap (pos L base r))
+      pub asks : sideOf (r .request) ≡ side (a .line)
+      pub tray : TrayOf (r .request) tr
+      pub since : r .since ≤ now
+      pub stands : Stands L base v (side (a .line)) (stage (a .line)) r (a .held) mk tr
+
+    abbrev pub Knows : View E → ℕ → Option (Running E) → BayRecord → Option Cell → Option E → Type 0
+    Knows v now None Idle mk tr = Unit {0}
+    Knows v now None (UnderWay a) mk tr = ⊥
+    Knows v now None (Ended s o) mk tr = Unit {0}
+    Knows v now None (Owed s) mk tr = Unit {0}
+    Knows v now (Some r) Idle mk tr = ⊥
+    Knows v now (Some r) (UnderWay a) mk tr = Stood v now r a mk tr
+    Knows v now (Some r) (Ended s o) mk tr = ⊥
+    Knows v now (Some r) (Owed s) mk tr = ⊥
+
+  abbrev pub viewOf : Start → List (Moment E) → State E → View E
+  viewOf st h s =
+      record {
+        T = st .base + alterations (st .base) h Putting;
+        H = st .base + alterations (st .base) h Taking;
+        slots = s .memory .slots;
+        puts = waiting (st .base) h Putting;
+        takes = waiting (st .base) h Taking;
+        ps = placed (st .base) h;
+      }
+
+  -- what no call changes
+  pub record Static (K : ℕ) (st : Start) (s : State E) : Type 0 where
+    pub few : st .bays ≤ 16
+    pub some : 0 < st .length
+    pub short : st .length ≤ 1024
+    pub divides : 2 ^ 32 % st .length ≡ 0
+    pub small : st .base < 2 ^ 32
+    pub opened : s .dock .opened ≡ true
+    pub bays : s .dock .bays ≡ st .bays
+    pub life : s .dock .lifetime ≤ mostLifetime
+    pub started : s .dock .started ≤ s .dock .lifetime
+    pub records : length (s .dock .records) ≡ 16
+    pub marks : length (s .memory .marks) ≡ 16
+    pub slots : length (s .memory .slots) ≡ st .length
+    pub trays : length (s .trays) ≡ st .bays
+    pub spare : s .memory .spare ≤ K
+
+  abbrev pub weight : Start → List (Moment E) → State E → ℕ → ℕ
+  weight st h s x =
+      sumTo (st .bays) (λ b. earlyBy x (recordOf (s .dock) b))
+      + (hits x (waiting (st .base) h Putting) + (hits x (waiting (st .base) h Taking) + length (places x (placed (st .base) h))))
+
+  pub record Inv (K : ℕ) (st : Start) (h : List (Moment E)) (s : State E) : Type 0 where
+    pub static : Static K st s
+    pub indices : (d : Side) → index (s .memory) (own d) ≡ indexIn (st .base) h d
+    pub wraps : (d : Side) → indexIn (st .base) h d ≡ wrap (count (viewOf st h s) d)
+    pub shared : Sharing (st .length) (st .base) (length h) (viewOf st h s)
+    pub asks : (d : Side) → Each (λ w. sideOf (w .request) ≡ d) (wait (viewOf st h s) d)
+    pub knows : (b : ℕ) → b < st .bays → Knows (st .length) (st .base) (viewOf st h s) (length h) (running (st .base) h b) (recordOf (s .dock) b) (mark (s .memory) b) (nth (s .trays) b)
+    pub once : (x : ℕ) → weight st h s x ≤ cond (leb x (s .dock .started)) 1 0
+    pub room : sumTo (st .bays) (λ b. early (recordOf (s .dock) b)) + (length (waiting (st .base) h Putting) + length (waiting (st .base) h Taking)) + (alterations (st .base) h Putting + alterations (st .base) h Taking) ≤ s .dock .started
+    pub past : Each (λ p. p .moment ≤ length h) (placed (st .base) h)
+    pub given-up : Each (λ r. (r .serial ≤ s .dock .started) × (weight st h s (r .serial) ≡ 0)) (untouched (st .base) h)
+    pub law : Linearizable (st .length) (st .base) h
