@@ -115,20 +115,31 @@ module _ {E : Type 0} where
     pub trays : length (s .trays) ≡ st .bays
     pub spare : s .memory .spare ≤ K
 
-  abbrev pub weight : Start → List (Moment E) → State E → ℕ → ℕ
-  weight st h s x =
-      sumTo (st .bays) (λ b. earlyBy x (recordOf (s .dock) b))
-      + (hits x (waiting (st .base) h Putting) + (hits x (waiting (st .base) h Taking) + length (places x (placed (st .base) h))))
+  -- how often a serial waits or is placed
+  abbrev pub words : View E → ℕ → ℕ
+  words v x = hits x (v .puts) + (hits x (v .takes) + length (places x (v .ps)))
+
+  abbrev pub weight : ℕ → View E → State E → ℕ → ℕ
+  weight n v s x = sumTo n (λ b. earlyBy x (recordOf (s .dock) b)) + words v x
+
+  -- the slot stores that have been accepted, each once while it waits and once when it is counted
+  abbrev pub extent : View E → ℕ
+  extent v = length (v .puts) + length (v .takes) + (v .T + v .H)
+
+  -- of a state, with the view of it and the calls that run
+  pub record Inner (K : ℕ) (st : Start) (v : View E) (now : ℕ) (s : State E) (run : ℕ → Option (Running E)) : Type 0 where
+    pub static : Static K st s
+    pub wraps : (d : Side) → index (s .memory) (own d) ≡ wrap (count v d)
+    pub same : v .slots ≡ s .memory .slots
+    pub shared : Sharing (st .length) (st .base) now v
+    pub asks : (d : Side) → Each (λ w. sideOf (w .request) ≡ d) (wait v d)
+    pub knows : (b : ℕ) → b < st .bays → Knows (st .length) (st .base) v now (run b) (recordOf (s .dock) b) (mark (s .memory) b) (nth (s .trays) b)
+    pub once : (x : ℕ) → weight (st .bays) v s x ≤ cond (leb x (s .dock .started)) 1 0
+    pub room : sumTo (st .bays) (λ b. early (recordOf (s .dock) b)) + extent v ≤ s .dock .started + (st .base + st .base)
 
   pub record Inv (K : ℕ) (st : Start) (h : List (Moment E)) (s : State E) : Type 0 where
-    pub static : Static K st s
+    pub inner : Inner K st (viewOf st h s) (length h) s (running (st .base) h)
     pub indices : (d : Side) → index (s .memory) (own d) ≡ indexIn (st .base) h d
-    pub wraps : (d : Side) → indexIn (st .base) h d ≡ wrap (count (viewOf st h s) d)
-    pub shared : Sharing (st .length) (st .base) (length h) (viewOf st h s)
-    pub asks : (d : Side) → Each (λ w. sideOf (w .request) ≡ d) (wait (viewOf st h s) d)
-    pub knows : (b : ℕ) → b < st .bays → Knows (st .length) (st .base) (viewOf st h s) (length h) (running (st .base) h b) (recordOf (s .dock) b) (mark (s .memory) b) (nth (s .trays) b)
-    pub once : (x : ℕ) → weight st h s x ≤ cond (leb x (s .dock .started)) 1 0
-    pub room : sumTo (st .bays) (λ b. early (recordOf (s .dock) b)) + (length (waiting (st .base) h Putting) + length (waiting (st .base) h Taking)) + (alterations (st .base) h Putting + alterations (st .base) h Taking) ≤ s .dock .started
     pub past : Each (λ p. p .moment ≤ length h) (placed (st .base) h)
-    pub given-up : Each (λ r. (r .serial ≤ s .dock .started) × (weight st h s (r .serial) ≡ 0)) (untouched (st .base) h)
+    pub given-up : Each (λ r. (r .serial ≤ s .dock .started) × (weight (st .bays) (viewOf st h s) s (r .serial) ≡ 0)) (untouched (st .base) h)
     pub law : Linearizable (st .length) (st .base) h

@@ -8,4 +8,6 @@ pub mod Knows
 pub mod Placing
 pub mod Changes
 pub mod Invariant
+pub mod Turns
 pub mod Moments
+pub mod Finish
