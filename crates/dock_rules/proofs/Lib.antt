@@ -9,5 +9,6 @@ pub mod Placing
 pub mod Changes
 pub mod Invariant
 pub mod Turns
+pub mod Ways
 pub mod Moments
 pub mod Finish
