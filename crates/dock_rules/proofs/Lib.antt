@@ -10,5 +10,7 @@ pub mod Changes
 pub mod Invariant
 pub mod Turns
 pub mod Ways
+pub mod Bays
 pub mod Moments
 pub mod Finish
+pub mod Moves

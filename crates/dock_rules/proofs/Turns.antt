@@ -87,10 +87,14 @@ module _ {E : Type 0} {K : ℕ} {st : Start} {v u : View E} {now : ℕ} {kill : 
       (subst (λ x. Knows (st .length) (st .base) u (suc now) (run c) (recordOf (s .dock) c) x (nth (t .trays) c)) (sym (o .marks))
       (subst (λ x. Knows (st .length) (st .base) u (suc now) (run c) (recordOf (s .dock) c) (spared kill (mark (s .memory) c)) x) (sym (o .trays)) k)))
 
-  pub weighs-less : (x : ℕ) → weight (st .bays) u t x ≤ weight (st .bays) v s x
-  weighs-less x =
+  -- only bay b's part of the weight changes, and what waits or is placed
+  pub weighs : (x : ℕ) → weight (st .bays) u t x + (earlyBy x (recordOf (s .dock) b) + words v x) ≡ weight (st .bays) v s x + (earlyBy x (recordOf (t .dock) b) + words u x)
+  weighs x =
       let same = sum-change (st .bays) b (λ c. earlyBy x (recordOf (t .dock) c)) (λ c. earlyBy x (recordOf (s .dock) c)) (act .inside) (λ c n. ap (earlyBy x) (act .others c n .records)) in
-      omega (arith, act .lighter x)
+      omega arith
+
+  pub weighs-less : (x : ℕ) → weight (st .bays) u t x ≤ weight (st .bays) v s x
+  weighs-less x = omega (arith, weighs x, act .lighter x)
 
   pub goes-on : Inner K st v now s run → Inner K st u (suc now) t run′
   goes-on i =
