@@ -14,3 +14,5 @@ pub mod Bays
 pub mod Moments
 pub mod Finish
 pub mod Moves
+pub mod Calm
+pub mod Acting
