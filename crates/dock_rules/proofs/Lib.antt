@@ -14,5 +14,7 @@ pub mod Bays
 pub mod Moments
 pub mod Finish
 pub mod Moves
+pub mod Weights
 pub mod Calm
 pub mod Acting
+pub mod Moving

@@ -34,3 +34,11 @@ sum-change (suc n) b f g l e = elim (cases-eq b n) [
       let rest = sum-change n b f g (omega arith) e in
       omega (arith, e n (omega arith))
 ]
+
+-- a sum is no less than each of its parts
+pub sum-has : (n b : ℕ) (f : ℕ → ℕ) → b < n → f b ≤ sumTo n f
+sum-has zero b f l = omega arith
+sum-has (suc n) b f l = elim (cases-eq b n) [
+  | inl same ↦ rw same (omega arith)
+  | inr other ↦ let rest = sum-has n b f (omega arith) in omega arith
+]
