@@ -18,3 +18,4 @@ pub mod Weights
 pub mod Calm
 pub mod Acting
 pub mod Moving
+pub mod Storing
