@@ -19,3 +19,4 @@ pub mod Calm
 pub mod Acting
 pub mod Moving
 pub mod Storing
+pub mod Ending

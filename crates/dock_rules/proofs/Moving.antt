@@ -59,7 +59,7 @@ module _ {E : Type 0} {K : ℕ} {st : Start} {h : List (Moment E)} {s : State E}
     weighs : (places (w .serial) (v .ps) ≡ []) × (0 < weight (st .bays) v s (w .serial))
     weighs = waits-weigh st v s (i .inner .once) d w one
 
-  moving-change : (d : Side) (w : Running E) → wait v d ≡ w ∷ [] → Change (st .length) (st .base) now v (moving (st .length) (st .base) now d v w) (Some (At (own d)))
+  pub moving-change : (d : Side) (w : Running E) → wait v d ≡ w ∷ [] → Change (st .length) (st .base) now v (moving (st .length) (st .base) now d v w) (Some (At (own d)))
   moving-change Putting w one =
       let p = asked-put (w .request) (asked Putting w one) in
       tail-change (st .length) (st .base) now v w (p .0) (i .inner .shared) one (p .1) (weighs Putting w one .0)
