@@ -86,8 +86,8 @@ module _ {E : Type 0} {K : ℕ} {st : Start} {h : List (Moment E)} {s : State E}
         tray = tray;
         since = omega (arith, stood .since);
         stands =
-          subst (λ y. Stands (st .length) (st .base) v y (stage (lineAt (side (a .line)) g)) (arrived g c) held mk tr) (sym (side-at (side (a .line)) g))
-          (subst (λ y. Stands (st .length) (st .base) v (side (a .line)) y (arrived g c) held mk tr) (sym (stage-at (side (a .line)) g)) stands);
+            subst (λ y. Stands (st .length) (st .base) v y (stage (lineAt (side (a .line)) g)) (arrived g c) held mk tr) (sym (side-at (side (a .line)) g))
+            (subst (λ y. Stands (st .length) (st .base) v (side (a .line)) y (arrived g c) held mk tr) (sym (stage-at (side (a .line)) g)) stands);
       }
 
   pub runs-to : (g : Stage) (c : ℕ) → cond (eqb (number (r .line)) 5) (alterations (st .base) h (side (r .line))) (r .read) ≡ c → running (st .base) (momentOf (Step b) (StandsAt (lineAt (side (a .line)) g)) s ∷ h) b ≡ Some (arrived g c)
@@ -100,10 +100,10 @@ module _ {E : Type 0} {K : ℕ} {st : Start} {h : List (Moment E)} {s : State E}
   goes g x held c mem trs un read calm le long others noted tray stands =
       moved K st h s b i
       (calm-move K st h s b (Step b) (StandsAt (lineAt (side (a .line)) g)) (UnderWay (attemptAt g x held)) mem trs (Some (arrived g c)) i inside un refl (runs-to g c read) long others
-        (stood-at (viewOf st h s) g x held c (mark mem b) (nth trs b) noted tray stands)
-        (lighter-at g x held le)
-        (roomier-at g x held le)
-        (no-store g calm)
-        refl
-        tt
-        tt)
+      (stood-at (viewOf st h s) g x held c (mark mem b) (nth trs b) noted tray stands)
+      (lighter-at g x held le)
+      (roomier-at g x held le)
+      (no-store g calm)
+      refl
+      tt
+      tt)

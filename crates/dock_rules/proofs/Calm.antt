@@ -63,12 +63,12 @@ module _ {E : Type 0} (K : ℕ) (st : Start) (h : List (Moment E)) (s : State E)
       let m = momentOf c an t in
       let v = viewOf st h s in
       let happens : Happens st m h false false [] [] [] = record {
-            tail = same-index st m h Putting (un .tail ∙ i .indices Putting);
-            head = same-index st m h Taking (un .head ∙ i .indices Taking);
-            puts = none Putting;
-            takes = none Taking;
-            turned = turned;
-          }
+        tail = same-index st m h Putting (un .tail ∙ i .indices Putting);
+        head = same-index st m h Taking (un .head ∙ i .indices Taking);
+        puts = none Putting;
+        takes = none Taking;
+        turned = turned;
+      }
       in
       record {
         inside = inside;

@@ -99,17 +99,17 @@ module _ {E : Type 0} (L base now : ℕ) where
         behind = elim [ Putting ↦ λ k same. absurd (omega arith) | Taking ↦ λ k same. k ];
         ready = elim [ Putting ↦ λ i tr k rd. rd | Taking ↦ λ i tr k rd. rd ];
         stays = elim [
-          Putting ↦ λ tr some rd. absurd (some-is-not-none (Some e) refl (sym (held ∙ ap heldBy asked) ∙ rd))
-        | Taking ↦ λ tr some rd. refl
+          | Putting ↦ λ tr some rd. absurd (some-is-not-none (Some e) refl (sym (held ∙ ap heldBy asked) ∙ rd))
+          | Taking ↦ λ tr some rd. refl
         ];
         kept = elim [
-          Putting ↦ λ r tr since. elim [
-            inl k ↦ inr (waited-counts v u w Putting r tr none refl refl (ap (λ x. x .serial) (same-first w (k .it) (sym one ∙ k .only)) ∙ k .serial) since (k .at) (ap (λ a. plain L (queueOf L base v) a .0) asked ∙ ap (λ a. a .0) put))
-          | inr k ↦ inr (counted-stays v u w Putting r tr none refl (omega arith) k)
+          | Putting ↦ λ r tr since. elim [
+            | inl k ↦ inr (waited-counts v u w Putting r tr none refl refl (ap (λ x. x .serial) (same-first w (k .it) (sym one ∙ k .only)) ∙ k .serial) since (k .at) (ap (λ a. plain L (queueOf L base v) a .0) asked ∙ ap (λ a. a .0) put))
+            | inr k ↦ inr (counted-stays v u w Putting r tr none refl (omega arith) k)
           ]
-        | Taking ↦ λ r tr since. elim [
-            inl k ↦ inl (waits-stay v u Taking r tr refl refl (ap (λ l. nth l 0) grown ∙ nth-push L (queueOf L base v) e (omega (arith, sh .first, ap length (k .only))) ∙ k .first) k)
-          | inr k ↦ inr (counted-stays v u w Taking r tr none refl (omega arith) k)
+          | Taking ↦ λ r tr since. elim [
+            | inl k ↦ inl (waits-stay v u Taking r tr refl refl (ap (λ l. nth l 0) grown ∙ nth-push L (queueOf L base v) e (omega (arith, sh .first, ap length (k .only))) ∙ k .first) k)
+            | inr k ↦ inr (counted-stays v u w Taking r tr none refl (omega arith) k)
           ]
         ];
       }
@@ -128,13 +128,13 @@ module _ {E : Type 0} (L base now : ℕ) where
         ready = elim [ Putting ↦ λ i tr k rd. rd | Taking ↦ λ i tr k rd. rd ];
         stays = elim [ Putting ↦ λ tr some rd. refl | Taking ↦ λ tr some rd. absurd (some-is-not-none tr some (sym rd ∙ emptied)) ];
         kept = elim [
-          Putting ↦ λ r tr since. elim [
-            inl k ↦ inl (waits-stay v u Putting r tr refl refl tt k)
-          | inr k ↦ inr (counted-stays v u w Putting r tr none refl (omega arith) k)
+          | Putting ↦ λ r tr since. elim [
+            | inl k ↦ inl (waits-stay v u Putting r tr refl refl tt k)
+            | inr k ↦ inr (counted-stays v u w Putting r tr none refl (omega arith) k)
           ]
-        | Taking ↦ λ r tr since. elim [
-            inl k ↦ inr (waited-counts v u w Taking r tr none refl refl (ap (λ x. x .serial) (same-first w (k .it) (sym one ∙ k .only)) ∙ k .serial) since (k .at) (ap (λ a. plain L (queueOf L base v) a .0) asked ∙ took ∙ ap (λ x. (Taken, x)) (k .first)))
-          | inr k ↦ inr (counted-stays v u w Taking r tr none refl (omega arith) k)
+          | Taking ↦ λ r tr since. elim [
+            | inl k ↦ inr (waited-counts v u w Taking r tr none refl refl (ap (λ x. x .serial) (same-first w (k .it) (sym one ∙ k .only)) ∙ k .serial) since (k .at) (ap (λ a. plain L (queueOf L base v) a .0) asked ∙ took ∙ ap (λ x. (Taken, x)) (k .first)))
+            | inr k ↦ inr (counted-stays v u w Taking r tr none refl (omega arith) k)
           ]
         ];
       }
@@ -146,28 +146,28 @@ module _ {E : Type 0} (L base now : ℕ) where
   -- a call that is placed already, or waits, where nothing that this rests on changes
   rests : (v u : View E) (d : Side) (r : Running E) (tr : Option E) → count u d ≡ count v d → u .ps ≡ v .ps → wait u d ≡ wait v d → Kept L base v d r tr → Kept L base u d r tr
   rests v u d r tr same ps waits = elim [
-      inl k ↦ inl (waits-stay v u d r tr same waits (same-front v u d tr (ap (queue L) ps) (k .first)) k)
+    | inl k ↦ inl (waits-stay v u d r tr same waits (same-front v u d tr (ap (queue L) ps) (k .first)) k)
     | inr k ↦ inr (record {
-          past = omega (arith, k .past);
-          moment = k .moment;
-          place = ap (places (r .serial)) ps ∙ k .place;
-          since = k .since;
-          gives = ap (gives L (r .serial)) ps ∙ k .gives;
-        })
-    ]
+      past = omega (arith, k .past);
+      moment = k .moment;
+      place = ap (places (r .serial)) ps ∙ k .place;
+      since = k .since;
+      gives = ap (gives L (r .serial)) ps ∙ k .gives;
+    })
+  ]
 
   -- no call waits where another stores
   alone : (v u : View E) (d : Side) (r : Running E) (tr : Option E) → wait v d ≡ [] → count u d ≡ count v d → u .ps ≡ v .ps → Kept L base v d r tr → Kept L base u d r tr
   alone v u d r tr none same ps = elim [
-      inl k ↦ (let z : _≡_ {A = ℕ} 0 1 = sym (ap length none) ∙ ap length (k .only) in absurd (omega arith))
+    | inl k ↦ (let z : _≡_ {A = ℕ} 0 1 = sym (ap length none) ∙ ap length (k .only) in absurd (omega arith))
     | inr k ↦ inr (record {
-          past = omega (arith, k .past);
-          moment = k .moment;
-          place = ap (places (r .serial)) ps ∙ k .place;
-          since = k .since;
-          gives = ap (gives L (r .serial)) ps ∙ k .gives;
-        })
-    ]
+      past = omega (arith, k .past);
+      moment = k .moment;
+      place = ap (places (r .serial)) ps ∙ k .place;
+      since = k .since;
+      gives = ap (gives L (r .serial)) ps ∙ k .gives;
+    })
+  ]
 
   pub store-change : (d : Side) (v : View E) (w : Running E) (x : Option E) → wait v d ≡ [] → Change L base now v (storing d v w x) (Some (Slot (count v d % L)))
   store-change Putting v w x none =
@@ -178,13 +178,13 @@ module _ {E : Type 0} (L base now : ℕ) where
         moves = elim [ Putting ↦ λ k. refl | Taking ↦ λ k. refl ];
         behind = elim [ Putting ↦ λ k same. omega arith | Taking ↦ λ k same. k ];
         ready = elim [
-          Putting ↦ λ i tr k rd. elsewhere (v .T) i k ∙ rd
-        | Taking ↦ λ i tr k rd. elsewhere (v .T) i k ∙ rd
+          | Putting ↦ λ i tr k rd. elsewhere (v .T) i k ∙ rd
+          | Taking ↦ λ i tr k rd. elsewhere (v .T) i k ∙ rd
         ];
         stays = elim [ Putting ↦ λ tr some rd. refl | Taking ↦ λ tr some rd. refl ];
         kept = elim [
-          Putting ↦ λ r tr since. alone v u Putting r tr none refl refl
-        | Taking ↦ λ r tr since. rests v u Taking r tr refl refl refl
+          | Putting ↦ λ r tr since. alone v u Putting r tr none refl refl
+          | Taking ↦ λ r tr since. rests v u Taking r tr refl refl refl
         ];
       }
     where
@@ -198,13 +198,13 @@ module _ {E : Type 0} (L base now : ℕ) where
         moves = elim [ Putting ↦ λ k. refl | Taking ↦ λ k. refl ];
         behind = elim [ Putting ↦ λ k same. k | Taking ↦ λ k same. omega arith ];
         ready = elim [
-          Putting ↦ λ i tr k rd. elsewhere (v .H) i k ∙ rd
-        | Taking ↦ λ i tr k rd. elsewhere (v .H) i k ∙ rd
+          | Putting ↦ λ i tr k rd. elsewhere (v .H) i k ∙ rd
+          | Taking ↦ λ i tr k rd. elsewhere (v .H) i k ∙ rd
         ];
         stays = elim [ Putting ↦ λ tr some rd. refl | Taking ↦ λ tr some rd. refl ];
         kept = elim [
-          Putting ↦ λ r tr since. rests v u Putting r tr refl refl refl
-        | Taking ↦ λ r tr since. alone v u Taking r tr none refl refl
+          | Putting ↦ λ r tr since. rests v u Putting r tr refl refl refl
+          | Taking ↦ λ r tr since. alone v u Taking r tr none refl refl
         ];
       }
     where
@@ -222,14 +222,15 @@ module _ {E : Type 0} (L base now : ℕ) where
         ready = elim [ Putting ↦ λ i tr k rd. rd | Taking ↦ λ i tr k rd. rd ];
         stays = elim [ Putting ↦ λ tr some rd. refl | Taking ↦ λ tr some rd. refl ];
         kept = λ d r tr since. elim [
-            inl k ↦ inl (waits-stay v u d r tr (sames d) (waits d) (same-front v u d tr same (k .first)) k)
+          | inl k ↦ inl (waits-stay v u d r tr (sames d) (waits d) (same-front v u d tr same (k .first)) k)
           | inr k ↦ inr (counted-stays v u w d r tr none refl (omega (arith, sames d)) k)
-          ];
+        ];
       }
     where
       sames : (d : Side) → count (turning v w) d ≡ count v d
       sames Putting = refl
       sames Taking = refl
+
       waits : (d : Side) → wait (turning v w) d ≡ wait v d
       waits Putting = refl
       waits Taking = refl

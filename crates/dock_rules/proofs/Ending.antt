@@ -91,10 +91,10 @@ module _ {E : Type 0} {K : ℕ} {st : Start} {h : List (Moment E)} {s : State E}
       let rec = Ended (a .serial) o in
       moved K st h s b i
       (calm-move K st h s b (Step b) (End o) rec mem (s .trays) None i inside un refl (stops-run o (acted K st h s b rec mem (s .trays))) refl (λ c n. refl) tt (λ x. omega arith) (omega arith)
-        (λ c. refl)
-        (not-turned d)
-        (told-end (v .ps) o (answered-of (st .length) (st .base) now v d r tr past-now k))
-        tt)
+      (λ c. refl)
+      (not-turned d)
+      (told-end (v .ps) o (answered-of (st .length) (st .base) now v d r tr past-now k))
+      tt)
 
   no-wait : (o : Side) (w : Running E) → wait (moving (st .length) (st .base) now o v w) o ≡ []
   no-wait Putting w = refl
@@ -118,16 +118,16 @@ module _ {E : Type 0} {K : ℕ} {st : Start} {h : List (Moment E)} {s : State E}
       let counted = go (moving-change i d w one .kept d r tr (omega (arith, k .since)) kept) in
       moved K st h s b i
       (moving-move i (Step b) (End o) b rec None d w x spare inside low e one refl (stops-run o (acted K st h s b rec (bumped i d x spare) (s .trays))) tt (λ y. omega arith) (omega arith)
-        (λ c. refl)
-        (not-turned d)
-        refl
-        (told-end (place now w ∷ v .ps) o (subst (λ ps. Answered (st .length) ps (ends now o tr r)) (moving-ps d w) (answered-of (st .length) (st .base) now u d r tr (past-moving d w) counted))))
+      (λ c. refl)
+      (not-turned d)
+      refl
+      (told-end (place now w ∷ v .ps) o (subst (λ ps. Answered (st .length) ps (ends now o tr r)) (moving-ps d w) (answered-of (st .length) (st .base) now u d r tr (past-moving d w) counted))))
     where
       go : Kept (st .length) (st .base) (moving (st .length) (st .base) now d v w) d r tr → Counted (st .length) (st .base) (moving (st .length) (st .base) now d v w) d r tr
       go = elim [
-          inl q ↦ (let z : _≡_ {A = ℕ} 0 1 = sym (ap length (no-wait d w)) ∙ ap length (q .only) in absurd (omega arith))
+        | inl q ↦ (let z : _≡_ {A = ℕ} 0 1 = sym (ap length (no-wait d w)) ∙ ap length (q .only) in absurd (omega arith))
         | inr q ↦ q
-        ]
+      ]
 
   -- the plain queue is full for a put that read a count one ring behind the head, and empty for a take that read the tail
   turns-plain : (o : Side) → sideOf (r .request) ≡ o → pos (st .length) (st .base) r ≤ count v o → pos (st .length) (st .base) r ≡ lim (st .length) (st .base) v o → plain (st .length) (queueOf (st .length) (st .base) v) (r .request) ≡ ((turnedAway o, None), queueOf (st .length) (st .base) v)
@@ -169,12 +169,12 @@ module _ {E : Type 0} {K : ℕ} {st : Start} {h : List (Moment E)} {s : State E}
       let plain-is = turns-plain d (k .asks) le at in
       let same : queue (st .length) (place now r ∷ v .ps) ≡ queue (st .length) (v .ps) = ap (λ x. x .1) plain-is in
       let happens : Happens st m h false false [] [] (r ∷ []) = record {
-            tail = same-index st m h Putting (i .indices Putting);
-            head = same-index st m h Taking (i .indices Taking);
-            puts = refl;
-            takes = refl;
-            turned = told-turned at6 d (ap side (k .line));
-          }
+        tail = same-index st m h Putting (i .indices Putting);
+        head = same-index st m h Taking (i .indices Taking);
+        puts = refl;
+        takes = refl;
+        turned = told-turned at6 d (ap side (k .line));
+      }
       in
       moved K st h s b i (record {
         inside = inside;

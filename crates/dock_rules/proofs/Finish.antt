@@ -87,8 +87,8 @@ module _ {E : Type 0} {K : ℕ} {st : Start} {h : List (Moment E)} {s : State E}
       let same : u .ps ≡ placed (st .base) (m ∷ h) = ap (λ x. x .ps) (sym view) in
       let all = each-append (Answered (st .length) (u .ps)) E′ (ended (st .base) h) answered (still-answered ps) in
       let given = each-append (λ r. (r .serial ≤ t .dock .started) × (weight (st .bays) u t (r .serial) ≡ 0)) U′ (untouched (st .base) h)
-            (each-map _ _ U′ (λ r k. (k .0, k .1)) left)
-            (each-map _ _ (untouched (st .base) h) (λ r k. (omega (arith, k .0), omega (arith, k .1, lighter (r .serial) (k .0)))) (i .given-up))
+      (each-map _ _ U′ (λ r k. (k .0, k .1)) left)
+      (each-map _ _ (untouched (st .base) h) (λ r k. (omega (arith, k .0), omega (arith, k .1, lighter (r .serial) (k .0)))) (i .given-up))
       in
       record {
         inner = subst (λ x. Inner K st x now t (running (st .base) (m ∷ h))) (sym view) inner;

@@ -20,3 +20,6 @@ pub mod Acting
 pub mod Moving
 pub mod Storing
 pub mod Ending
+pub mod Rank
+pub mod Falls
+pub mod Progress

@@ -43,21 +43,21 @@ module _ {E : Type 0} (st : Start) (m : Moment E) (h : List (Moment E)) where
   placed-after x = λ i. map (place (suc (length h))) (gone (x .tail i) (waiting (st .base) h Putting) ++ (gone (x .head i) (waiting (st .base) h Taking) ++ x .turned i)) ++ placed (st .base) h
 
   view-after : {p t : Bool} {ps ts ws : List (Running E)} (s : State E) → Happens p t ps ts ws → viewOf st (m ∷ h) s ≡ record {
-      T = st .base + after p (alterations (st .base) h Putting);
-      H = st .base + after t (alterations (st .base) h Taking);
-      slots = s .memory .slots;
-      puts = ps ++ still p (waiting (st .base) h Putting);
-      takes = ts ++ still t (waiting (st .base) h Taking);
-      ps = map (place (suc (length h))) (gone p (waiting (st .base) h Putting) ++ (gone t (waiting (st .base) h Taking) ++ ws)) ++ placed (st .base) h;
-    }
+    T = st .base + after p (alterations (st .base) h Putting);
+    H = st .base + after t (alterations (st .base) h Taking);
+    slots = s .memory .slots;
+    puts = ps ++ still p (waiting (st .base) h Putting);
+    takes = ts ++ still t (waiting (st .base) h Taking);
+    ps = map (place (suc (length h))) (gone p (waiting (st .base) h Putting) ++ (gone t (waiting (st .base) h Taking) ++ ws)) ++ placed (st .base) h;
+  }
   view-after s x = λ i. record {
-      T = st .base + after (x .tail i) (alterations (st .base) h Putting);
-      H = st .base + after (x .head i) (alterations (st .base) h Taking);
-      slots = s .memory .slots;
-      puts = x .puts i ++ still (x .tail i) (waiting (st .base) h Putting);
-      takes = x .takes i ++ still (x .head i) (waiting (st .base) h Taking);
-      ps = map (place (suc (length h))) (gone (x .tail i) (waiting (st .base) h Putting) ++ (gone (x .head i) (waiting (st .base) h Taking) ++ x .turned i)) ++ placed (st .base) h;
-    }
+    T = st .base + after (x .tail i) (alterations (st .base) h Putting);
+    H = st .base + after (x .head i) (alterations (st .base) h Taking);
+    slots = s .memory .slots;
+    puts = x .puts i ++ still (x .tail i) (waiting (st .base) h Putting);
+    takes = x .takes i ++ still (x .head i) (waiting (st .base) h Taking);
+    ps = map (place (suc (length h))) (gone (x .tail i) (waiting (st .base) h Putting) ++ (gone (x .head i) (waiting (st .base) h Taking) ++ x .turned i)) ++ placed (st .base) h;
+  }
 
   -- nothing that the bays share changes
   pub calm-view : (s u : State E) → u .memory .slots ≡ s .memory .slots → Happens false false [] [] [] → viewOf st (m ∷ h) u ≡ viewOf st h s
@@ -69,46 +69,46 @@ module _ {E : Type 0} (st : Start) (m : Moment E) (h : List (Moment E)) where
 
   pub tail-view : (s u : State E) (w : Running E) → u .memory .slots ≡ s .memory .slots → waiting (st .base) h Putting ≡ w ∷ [] → Happens true false [] [] [] → viewOf st (m ∷ h) u ≡ moving (st .length) (st .base) (suc (length h)) Putting (viewOf st h s) w
   tail-view s u w same one x = view-after u x ∙ λ i. record {
-      T = up i;
-      H = viewOf st h s .H;
-      slots = same i;
-      puts = [];
-      takes = viewOf st h s .takes;
-      ps = map (place (suc (length h))) (one i ++ []) ++ viewOf st h s .ps;
-    }
+    T = up i;
+    H = viewOf st h s .H;
+    slots = same i;
+    puts = [];
+    takes = viewOf st h s .takes;
+    ps = map (place (suc (length h))) (one i ++ []) ++ viewOf st h s .ps;
+  }
     where
       up : st .base + suc (alterations (st .base) h Putting) ≡ st .base + alterations (st .base) h Putting + 1
       up = omega arith
 
   pub head-view : (s u : State E) (w : Running E) → u .memory .slots ≡ s .memory .slots → waiting (st .base) h Taking ≡ w ∷ [] → Happens false true [] [] [] → viewOf st (m ∷ h) u ≡ moving (st .length) (st .base) (suc (length h)) Taking (viewOf st h s) w
   head-view s u w same one x = view-after u x ∙ λ i. record {
-      T = viewOf st h s .T;
-      H = up i;
-      slots = same i;
-      puts = viewOf st h s .puts;
-      takes = [];
-      ps = map (place (suc (length h))) (one i ++ []) ++ viewOf st h s .ps;
-    }
+    T = viewOf st h s .T;
+    H = up i;
+    slots = same i;
+    puts = viewOf st h s .puts;
+    takes = [];
+    ps = map (place (suc (length h))) (one i ++ []) ++ viewOf st h s .ps;
+  }
     where
       up : st .base + suc (alterations (st .base) h Taking) ≡ st .base + alterations (st .base) h Taking + 1
       up = omega arith
 
   pub put-view : (s u : State E) (w : Running E) (x : Option E) → u .memory .slots ≡ storing (st .length) (st .base) (suc (length h)) Putting (viewOf st h s) w x .slots → waiting (st .base) h Putting ≡ [] → Happens false false (w ∷ []) [] [] → viewOf st (m ∷ h) u ≡ storing (st .length) (st .base) (suc (length h)) Putting (viewOf st h s) w x
   put-view s u w x same none y = view-after u y ∙ λ i. record {
-      T = viewOf st h s .T;
-      H = viewOf st h s .H;
-      slots = same i;
-      puts = w ∷ none i;
-      takes = viewOf st h s .takes;
-      ps = viewOf st h s .ps;
-    }
+    T = viewOf st h s .T;
+    H = viewOf st h s .H;
+    slots = same i;
+    puts = w ∷ none i;
+    takes = viewOf st h s .takes;
+    ps = viewOf st h s .ps;
+  }
 
   pub take-view : (s u : State E) (w : Running E) (x : Option E) → u .memory .slots ≡ storing (st .length) (st .base) (suc (length h)) Taking (viewOf st h s) w x .slots → waiting (st .base) h Taking ≡ [] → Happens false false [] (w ∷ []) [] → viewOf st (m ∷ h) u ≡ storing (st .length) (st .base) (suc (length h)) Taking (viewOf st h s) w x
   take-view s u w x same none y = view-after u y ∙ λ i. record {
-      T = viewOf st h s .T;
-      H = viewOf st h s .H;
-      slots = same i;
-      puts = viewOf st h s .puts;
-      takes = w ∷ none i;
-      ps = viewOf st h s .ps;
-    }
+    T = viewOf st h s .T;
+    H = viewOf st h s .H;
+    slots = same i;
+    puts = viewOf st h s .puts;
+    takes = w ∷ none i;
+    ps = viewOf st h s .ps;
+  }

@@ -84,26 +84,26 @@ module _ {E : Type 0} (K : ℕ) (st : Start) (h : List (Moment E)) (s : State E)
       let t = acted rec mem trs in
       let own-record = record-own (s .dock) b rec (omega (arith, k .inside, i .inner .static .few, i .inner .static .records)) in
       let act : Acts K st (viewOf st h s) u (length h) kill s t (running (st .base) h) (running (st .base) (momentOf c an t ∷ h)) b = record {
-            inside = k .inside;
-            static = static-after rec mem trs (i .inner .static) (k .marks) (k .slots) (k .spare) (k .trays);
-            started = refl;
-            wraps = k .wraps;
-            same = k .same;
-            change = k .change;
-            shared = k .shared;
-            asks = k .asks;
-            others = λ o n. record {
-              runs = runs-other b (suc (length h)) (alterations (st .base) h) (running (st .base) h) (eventOf c an) o (k .about) n;
-              records = record-other (s .dock) b rec o n;
-              marks = k .other-marks o n;
-              trays = k .other-trays o n;
-            };
-            here =
-              subst (λ x. Knows (st .length) (st .base) u (suc (length h)) x (recordOf (t .dock) b) (mark mem b) (nth trs b)) (sym (k .run))
-              (subst (λ x. Knows (st .length) (st .base) u (suc (length h)) R x (mark mem b) (nth trs b)) (sym own-record) (k .here));
-            lighter = λ x. subst (λ y. earlyBy x y + words u x ≤ earlyBy x (recordOf (s .dock) b) + words (viewOf st h s) x) (sym own-record) (k .lighter x);
-            roomier = subst (λ y. early y + extent u ≤ early (recordOf (s .dock) b) + extent (viewOf st h s)) (sym own-record) (k .roomier);
-          }
+        inside = k .inside;
+        static = static-after rec mem trs (i .inner .static) (k .marks) (k .slots) (k .spare) (k .trays);
+        started = refl;
+        wraps = k .wraps;
+        same = k .same;
+        change = k .change;
+        shared = k .shared;
+        asks = k .asks;
+        others = λ o n. record {
+          runs = runs-other b (suc (length h)) (alterations (st .base) h) (running (st .base) h) (eventOf c an) o (k .about) n;
+          records = record-other (s .dock) b rec o n;
+          marks = k .other-marks o n;
+          trays = k .other-trays o n;
+        };
+        here =
+            subst (λ x. Knows (st .length) (st .base) u (suc (length h)) x (recordOf (t .dock) b) (mark mem b) (nth trs b)) (sym (k .run))
+            (subst (λ x. Knows (st .length) (st .base) u (suc (length h)) R x (mark mem b) (nth trs b)) (sym own-record) (k .here));
+        lighter = λ x. subst (λ y. earlyBy x y + words u x ≤ earlyBy x (recordOf (s .dock) b) + words (viewOf st h s) x) (sym own-record) (k .lighter x);
+        roomier = subst (λ y. early y + extent u ≤ early (recordOf (s .dock) b) + extent (viewOf st h s)) (sym own-record) (k .roomier);
+      }
       in
       finish i (momentOf c an t) t u (goes-on act (i .inner)) (k .view) (elim [ Putting ↦ refl | Taking ↦ refl ]) (omega arith) (λ x le. weighs-less act x) (k .placed) (k .answered)
       (each-map _ _ (untouchedBy (eventOf c an) (running (st .base) h)) (λ r l. (l .0, (let x = r .serial in let o = at-most-one (leb x (s .dock .started)) in omega (arith, weighs act x, i .inner .once x, l .1, ap (earlyBy x) own-record)), l .2)) (k .left))

@@ -72,7 +72,7 @@ module _ {E : Type 0} {K : ℕ} {st : Start} {h : List (Moment E)} {s : State E}
       let p = asked-put (w .request) (asked Putting w one) in
       let at-tail = subst (λ pt. Shared (st .length) (v .H) (v .T) (v .slots) pt (v .takes) q) one (i .inner .shared) in
       let grown : q ++ p .0 ∷ [] ≡ plain (st .length) q (w .request) .1 =
-          sym (ap (λ a. plain (st .length) q a .1) (p .1) ∙ ap (λ a. a .1) (plain-put (st .length) q (p .0) (omega (arith, at-tail .room))))
+      sym (ap (λ a. plain (st .length) q a .1) (p .1) ∙ ap (λ a. a .1) (plain-put (st .length) q (p .0) (omega (arith, at-tail .room))))
       in
       subst (Shared (st .length) (v .H) (v .T + 1) (v .slots) [] (v .takes)) grown (tail-moves (st .length) (v .H) (v .T) (v .slots) w (p .0) (v .takes) q (p .1) at-tail)
   moving-shared Taking w one =

@@ -87,7 +87,7 @@ module _ {E : Type 0} where
     tail-moves r e tk q asked s =
         let long = length-push q e in
         let same : contents [] tk (q ++ e ∷ []) ≡ contents (r ∷ []) tk q =
-            append-nil (front tk (q ++ e ∷ [])) ∙ front-push tk q e (s .first) ∙ ap (λ a. front tk q ++ heldBy a ∷ []) (sym asked)
+        append-nil (front tk (q ++ e ∷ [])) ∙ front-push tk q e (s .first) ∙ ap (λ a. front tk q ++ heldBy a ∷ []) (sym asked)
         in record {
           some = s .some;
           long = s .long;
@@ -122,7 +122,7 @@ module _ {E : Type 0} where
         let long : length (contents [] tk q) ≡ length q = ap length plain ∙ length-front tk q (s .first) in
         let here : H + length (contents [] tk q) ≡ T = omega (arith, s .tail) in
         let same : contents [] tk q ++ Some e ∷ [] ≡ contents (r ∷ []) tk q =
-            ap (λ l. l ++ Some e ∷ []) plain ∙ ap (λ a. front tk q ++ heldBy a ∷ []) (sym asked)
+        ap (λ l. l ++ Some e ∷ []) plain ∙ ap (λ a. front tk q ++ heldBy a ∷ []) (sym asked)
         in
         let pushed = ring-push L H slots (contents [] tk q) (Some e) (s .some) (s .long) (s .ring) (omega (arith, s .tail)) in
         record {

@@ -54,3 +54,5 @@ module _ {E : Type 0} where
     pub reads : (b : ℕ) → b < st .bays → (r : Running E) (a : Attempt) → running (st .base) h b ≡ Some r → recordOf (s .dock) b ≡ UnderWay a → (number (a .line) ≡ 5 → ⊥) → eqb (indexIn (st .base) h (side (a .line))) (a .index) ≡ eqb (r .read) (alterations (st .base) h (side (a .line)))
     -- a live store at line 13 finds a call that waits
     pub behind : (b : ℕ) → b < st .bays → (a : Attempt) → recordOf (s .dock) b ≡ UnderWay a → number (a .line) ≡ 13 → live (s .memory) b (At (own (side (a .line)))) ≡ true → 0 < length (waiting (st .base) h (side (a .line)))
+    -- and the index is still as the call read it
+    pub still : (b : ℕ) → b < st .bays → (a : Attempt) → recordOf (s .dock) b ≡ UnderWay a → number (a .line) ≡ 13 → live (s .memory) b (At (own (side (a .line)))) ≡ true → a .index ≡ index (s .memory) (own (side (a .line)))

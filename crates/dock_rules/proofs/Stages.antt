@@ -1,20 +1,20 @@
 -- The numbered lines by side and stage: what a put's and a take's line of one number have in common.
 -- Assumes nothing.
-use mathlib.Core.Path.{_≡_, refl}
-use mathlib.Core.Bool.{Bool, true, false, cond, not}
+use mathlib.Core.Path.{_≡_}
+use mathlib.Core.Bool.{Bool, cond, not}
 use Prim.Native.Nat.{ℕ, _+_, _%_}
 use native.Mathlib.Omega.{arith}
 use lib.Dec.{eqb}
 use Rattle.std.specs.Options.{isSome}
 use Rattle.std.specs.declared.option.Option.{Option}
-use Rattle.std.specs.declared.option.Option.the-variants.{Some, None}
+use Rattle.std.specs.declared.option.Option.the-variants.{None}
 use Rattle.slot_memory.specs.declared.Cell.the-variants.{Slot, At}
 use Rattle.slot_memory.specs.Rules.{InSlot, InIndex, Operation, Read, Mark, Store, Reply}
 use Rattle.dock_rules.specs.declared.Line.{Line}
 use Rattle.dock_rules.specs.declared.Line.the-variants.{E5, E6, E9, E10, E12, E13, E15, E16, E17, D5, D6, D9, D10, D12, D13, D15, D16, D17}
 use Rattle.dock_rules.specs.declared.Outcome.{Outcome}
 use Rattle.dock_rules.specs.declared.Outcome.the-variants.{Full, Stored, Empty, Taken}
-use Rattle.dock_rules.specs.Words.{Side, Putting, Taking, isTaking, side, number}
+use Rattle.dock_rules.specs.Words.{Side, Putting, Taking, side, number}
 use Rattle.dock_rules.specs.Lines.{Next, To, Ends, wrap, numberIn, contentIn, accepts, operation, next}
 use Rattle.dock_rules.proofs.Sound.{own}
 
@@ -29,6 +29,7 @@ pub data Stage : Type 0 where
   S16 : Stage
   S17 : Stage
 
+-- the number behind the letter
 abbrev pub numberAt : Stage → ℕ
 numberAt S5 = 5
 numberAt S6 = 6
@@ -40,6 +41,7 @@ numberAt S15 = 15
 numberAt S16 = 16
 numberAt S17 = 17
 
+-- the line of a side at a stage
 abbrev pub lineAt : Side → Stage → Line
 lineAt Putting S5 = E5
 lineAt Putting S6 = E6
@@ -60,6 +62,7 @@ lineAt Taking S15 = D15
 lineAt Taking S16 = D16
 lineAt Taking S17 = D17
 
+-- the stage of a line
 abbrev pub stage : Line → Stage
 stage E5 = S5
 stage E6 = S6
@@ -80,12 +83,14 @@ stage D15 = S15
 stage D16 = S16
 stage D17 = S17
 
+-- the line of a side and a stage has that side and that stage
 pub side-at : (d : Side) (g : Stage) → side (lineAt d g) ≡ d
 side-at d g = grind arith
 
 pub stage-at : (d : Side) (g : Stage) → stage (lineAt d g) ≡ g
 stage-at d g = grind arith
 
+-- a line's number is its stage's
 pub number-is : (l : Line) → number l ≡ numberAt (stage l)
 number-is l = grind arith
 
@@ -114,10 +119,12 @@ outrun Putting held = held
 outrun Taking held = not held
 
 module _ {E : Type 0} where
+  -- what the slot store leaves in the slot
   abbrev pub leftIn : Side → Option E → Option E
   leftIn Putting e = e
   leftIn Taking e = None
 
+  -- the one operation of a stage
   abbrev pub operationAt : Side → Stage → ℕ → ℕ → ℕ → Option E → Operation E
   operationAt d S5 b L i e = Read (own d)
   operationAt d S6 b L i e = Read (own (other d))
@@ -129,6 +136,7 @@ module _ {E : Type 0} where
   operationAt d S16 b L i e = Mark b (At (own d))
   operationAt d S17 b L i e = Store b (InIndex (own d) (wrap (i + 1)))
 
+  -- where a call goes from a stage
   abbrev pub nextAt : Side → Stage → ℕ → ℕ → Bool → Reply E → Next
   nextAt d S5 L i held r = To (lineAt d S6) (numberIn r) held
   nextAt d S6 L i held r = cond (turns d L i (numberIn r)) (Ends (turnedAway d)) (To (lineAt d S9) i held)

@@ -189,19 +189,21 @@ module _ {E : Type 0} {K : ℕ} {st : Start} {h : List (Moment E)} {s : State E}
           asks = storing-asks d r (leftIn d tr) (k .asks);
           other-marks = λ o n. written-mark (s .memory) (InSlot j (leftIn d tr)) spare o ∙ ap (λ y. spared (Some (Slot y)) (mark (s .memory) o)) slot;
           other-trays = λ o n. refl;
-          here = stood-at i b inside r a runs is u S16 x held (r .read) (mark (filled j spare) b) tr noted (k .tray)
-            (omega (arith, storing-count d r (leftIn d tr) d), inl (record {
+          here = stood-at i b inside r a runs is u S16 x held (r .read) (mark (filled j spare) b) tr noted (k .tray) (
+            omega (arith, storing-count d r (leftIn d tr) d),
+            inl (record {
               at = at ∙ sym (storing-count d r (leftIn d tr) d);
               it = r;
               only = storing-wait d r (leftIn d tr);
               serial = refl;
               first = storing-first d r tr none under ready;
-            }));
+            }),
+          );
           lighter = λ y.
-            let new : earlyBy y rec ≡ 0 = ap (λ n. cond (eqb (a .serial) y) (cond (ltb n 16) 1 0) 0) (number-at d S16) ∙ nothing (eqb (a .serial) y) in
-            let old : earlyBy y (recordOf (s .dock) b) ≡ cond (eqb (a .serial) y) 1 0 = ap (earlyBy y) is ∙ ap (λ n. cond (eqb (a .serial) y) (cond (ltb n 16) 1 0) 0) (number-is (a .line) ∙ ap numberAt at15) in
-            let mine : cond (eqb (r .serial) y) 1 0 ≡ cond {A = ℕ} (eqb (a .serial) y) 1 0 = ap (λ q. cond (eqb q y) 1 0) (k .serial) in
-            omega (arith, storing-words d r (leftIn d tr) none y);
+              let new : earlyBy y rec ≡ 0 = ap (λ n. cond (eqb (a .serial) y) (cond (ltb n 16) 1 0) 0) (number-at d S16) ∙ nothing (eqb (a .serial) y) in
+              let old : earlyBy y (recordOf (s .dock) b) ≡ cond (eqb (a .serial) y) 1 0 = ap (earlyBy y) is ∙ ap (λ n. cond (eqb (a .serial) y) (cond (ltb n 16) 1 0) 0) (number-is (a .line) ∙ ap numberAt at15) in
+              let mine : cond (eqb (r .serial) y) 1 0 ≡ cond {A = ℕ} (eqb (a .serial) y) 1 0 = ap (λ q. cond (eqb q y) 1 0) (k .serial) in
+              omega (arith, storing-words d r (leftIn d tr) none y);
           roomier = omega (arith, storing-extent d r (leftIn d tr) none);
           view = storing-view d m t r (leftIn d tr) (ap (λ y. set (s .memory .slots) y (leftIn d tr)) slot) refl refl told refl none;
           placed = subst (Places st (suc (length h)) v s) (sym (storing-ps d r (leftIn d tr))) noMore;
@@ -214,6 +216,7 @@ module _ {E : Type 0} {K : ℕ} {st : Start} {h : List (Moment E)} {s : State E}
         nothing : (t : Bool) → cond {A = ℕ} t 0 0 ≡ 0
         nothing true = refl
         nothing false = refl
+
         index-same : (o : Side) → index (filled j spare) (own o) ≡ index (s .memory) (own o)
         index-same Putting = refl
         index-same Taking = refl

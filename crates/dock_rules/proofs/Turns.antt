@@ -106,9 +106,9 @@ module _ {E : Type 0} {K : ℕ} {st : Start} {v u : View E} {now : ℕ} {kill : 
         shared = act .shared;
         asks = act .asks;
         knows = λ c lt. elim (cases-eq c b) [
-            inl e ↦ subst (λ x. Knows (st .length) (st .base) u (suc now) (run′ x) (recordOf (t .dock) x) (mark (t .memory) x) (nth (t .trays) x)) (sym e) (act .here)
+          | inl e ↦ subst (λ x. Knows (st .length) (st .base) u (suc now) (run′ x) (recordOf (t .dock) x) (mark (t .memory) x) (nth (t .trays) x)) (sym e) (act .here)
           | inr n ↦ others-know i c lt n
-          ];
+        ];
         once = λ x. let w = weighs-less x in let o = i .once x in subst (λ k. weight (st .bays) u t x ≤ cond (leb x k) 1 0) (sym (act .started)) (omega arith);
         room = omega (arith, act .roomier, act .started, i .room);
       }

@@ -36,14 +36,14 @@ module _ {E : Type 0} (m : RowMemory E) (sixteen : length (m .marks) ≡ 16) whe
   abbrev stored-marks : ℕ → Cell → Bool → List (Option RowMark)
   stored-marks b c accepted = cond accepted (map (struck c) (m .marks)) (set (m .marks) b None)
 
-  may-store : (b : ℕ) (c : Cell) (l s : Bool) → b < 16 → live (meaningOf m) b c ≡ l → balks m b ≡ s → MayStore 15 (meaningOf m) l (record { refuse = s; spare = spoiltIn (stored-marks b c (l && not s)) })
+  may-store : (b : ℕ) (c : Cell) (l s : Bool) → b < 16 → live (meaningOf m) b c ≡ l → balks (m .marks) b ≡ s → MayStore 15 (meaningOf m) l (record { refuse = s; spare = spoiltIn (stored-marks b c (l && not s)) })
   may-store b c true true h on spoilt =
       let one : worth (getD (m .marks) b None) ≡ 1 = ap counted spoilt in
       omega (arith, spoilt-set (m .marks) b None (omega arith))
   may-store b c true false h on spoilt = accepted-spare b c h (ap (isOn c) (sym (marked-cell (m .marks) b)) ∙ on)
   may-store b c false s h on spoilt = omega (arith, spoilt-set (m .marks) b None (omega arith))
 
-  may-chosen : (o : Operation E) → May 15 (meaningOf m) o (chosen m o)
+  may-chosen : (o : Operation E) → May 15 (meaningOf m) o (chosen (meaningOf m) (m .marks) o)
   may-chosen (Clear base) = omega arith
   may-chosen (Read i) = tt
   may-chosen (Mark b c) = go (known (meaningOf m) b c) refl
@@ -54,11 +54,11 @@ module _ {E : Type 0} (m : RowMemory E) (sixteen : length (m .marks) ≡ 16) whe
   may-chosen (Store b w) = go (known (meaningOf m) b (target w)) refl
     where
       accepted : Bool
-      accepted = live (meaningOf m) b (target w) && not (balks m b)
+      accepted = live (meaningOf m) b (target w) && not (balks (m .marks) b)
 
-      go : (k : Bool) → known (meaningOf m) b (target w) ≡ k → When k (MayStore 15 (meaningOf m) (live (meaningOf m) b (target w)) (record { refuse = balks m b; spare = spoiltIn (cond k (stored-marks b (target w) accepted) (m .marks)) })) (Unit {0})
-      go true e = may-store b (target w) (live (meaningOf m) b (target w)) (balks m b) (ltb-true b 16 (and-parts (ltb b 16) _ e .0)) refl refl
+      go : (k : Bool) → known (meaningOf m) b (target w) ≡ k → When k (MayStore 15 (meaningOf m) (live (meaningOf m) b (target w)) (record { refuse = balks (m .marks) b; spare = spoiltIn (cond k (stored-marks b (target w) accepted) (m .marks)) })) (Unit {0})
+      go true e = may-store b (target w) (live (meaningOf m) b (target w)) (balks (m .marks) b) (ltb-true b 16 (and-parts (ltb b 16) _ e .0)) refl refl
       go false e = tt
 
   pub keeps : (o : Operation E) (r : Reply E) (n : RowMemory E) → Balks m o r n → Keeps 15 (meaningOf m) o r (meaningOf n)
-  keeps o r n e = keeps-from 15 (meaningOf m) o r (meaningOf n) (chosen m o) (may-chosen o) (e .is)
+  keeps o r n e = keeps-from 15 (meaningOf m) o r (meaningOf n) (chosen (meaningOf m) (m .marks) o) (may-chosen o) (e .is)

@@ -1,5 +1,8 @@
 -- What the row memory means and what it does, exactly: a live store is refused where the mark is
 -- spoilt and accepted where it is not, and the spare is the number of spoilt marks.
+--
+--   ks     the marks as the memory notes them: for each bay none, or a cell and whether it is spoilt
+--
 -- Assumes nothing.
 use mathlib.Core.Path.{_≡_}
 use mathlib.Core.Bool.{Bool, true, false, cond, not, _&&_}
@@ -15,6 +18,10 @@ use Rattle.row_memory.specs.declared.RowMark.{RowMark}
 use Rattle.row_memory.specs.declared.RowMemory.{RowMemory}
 use Rattle.row_memory.specs.Row.{sound, struck, cellOf, isSpoilt, spoiltIn}
 
+-- whether the bay's mark is spoilt
+abbrev pub balks : List (Option RowMark) → ℕ → Bool
+balks ks b = isSpoilt (getD ks b None)
+
 module _ {E : Type 0} where
   abbrev pub meaningOf : RowMemory E → Meaning E
   meaningOf m =
@@ -24,30 +31,24 @@ module _ {E : Type 0} where
   abbrev pub fresh : List (Option E) → Meaning E
   fresh row = record { slots = used row; tail = 0; head = 0; marks = replicate bays None; spare = 0 }
 
-  -- whether the bay's mark is spoilt
-  abbrev pub balks : RowMemory E → ℕ → Bool
-  balks m b = isSpoilt (getD (m .marks) b None)
-
   -- the marks after an operation
-  abbrev pub marksAfter : RowMemory E → Operation E → List (Option RowMark)
-  marksAfter m (Clear base) = replicate bays None
-  marksAfter m (Read i) = m .marks
-  marksAfter m (Mark b c) = cond (known (meaningOf m) b c) (set (m .marks) b (Some (sound c))) (m .marks)
-  marksAfter m (Store b w) =
-      cond (known (meaningOf m) b (target w))
-      (cond (live (meaningOf m) b (target w) && not (balks m b)) (map (struck (target w)) (m .marks)) (set (m .marks) b None))
-      (m .marks)
+  abbrev pub marksAfter : Meaning E → List (Option RowMark) → Operation E → List (Option RowMark)
+  marksAfter m ks (Clear base) = replicate bays None
+  marksAfter m ks (Read i) = ks
+  marksAfter m ks (Mark b c) = cond (known m b c) (set ks b (Some (sound c))) ks
+  marksAfter m ks (Store b w) =
+      cond (known m b (target w)) (cond (live m b (target w) && not (balks ks b)) (map (struck (target w)) ks) (set ks b None)) ks
 
-  abbrev pub refuses : RowMemory E → Operation E → Bool
-  refuses m (Clear base) = false
-  refuses m (Read i) = false
-  refuses m (Mark b c) = false
-  refuses m (Store b w) = balks m b
+  abbrev pub refuses : List (Option RowMark) → Operation E → Bool
+  refuses ks (Clear base) = false
+  refuses ks (Read i) = false
+  refuses ks (Mark b c) = false
+  refuses ks (Store b w) = balks ks b
 
-  -- the free results that this memory takes
-  abbrev pub chosen : RowMemory E → Operation E → Free
-  chosen m o = record { refuse = refuses m o; spare = spoiltIn (marksAfter m o) }
+  -- the free results that a memory of this meaning takes with these marks
+  abbrev pub chosen : Meaning E → List (Option RowMark) → Operation E → Free
+  chosen m ks o = record { refuse = refuses ks o; spare = spoiltIn (marksAfter m ks o) }
 
   pub record Balks (m : RowMemory E) (o : Operation E) (r : Reply E) (n : RowMemory E) : Type 0 where
-    pub is : (r, meaningOf n) ≡ touched (meaningOf m) o (chosen m o)
-    pub marks : n .marks ≡ marksAfter m o
+    pub is : (r, meaningOf n) ≡ touched (meaningOf m) o (chosen (meaningOf m) (m .marks) o)
+    pub marks : n .marks ≡ marksAfter (meaningOf m) (m .marks) o

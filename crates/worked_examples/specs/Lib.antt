@@ -1,0 +1,5 @@
+pub mod Play
+pub mod Alone
+pub mod Together
+pub mod Histories
+pub mod Examples
