@@ -53,13 +53,13 @@ module _ {E : Type 0} {K : ℕ} {st : Start} {h : List (Moment E)} {s : State E}
   number-of = ap number (stood .line) ∙ number-is (a .line)
 
   -- where no slot store is accepted, none is told
-  no-store : (g : Stage) → (eqb (numberAt (stage (a .line))) 15 && eqb (numberAt g) 16) ≡ false → (d : Side) → storedBy d (Goes b (lineAt (side (a .line)) g)) (running (st .base) h) ≡ []
+  pub no-store : (g : Stage) → (eqb (numberAt (stage (a .line))) 15 && eqb (numberAt g) 16) ≡ false → (d : Side) → storedBy d (Goes b (lineAt (side (a .line)) g)) (running (st .base) h) ≡ []
   no-store g e d =
       let l = lineAt (side (a .line)) g in
       ap (when (isStore d l)) runs
       ∙ cond-false (isStore d l r) (r ∷ []) [] (and-right (sameSide (side (r .line)) d) _ ((λ j. eqb (number-of j) 15 && eqb (number-at (side (a .line)) g j) 16) ∙ e))
 
-  lighter-at : (g : Stage) (x : ℕ) (held : Bool) → earlyAt g ≤ earlyAt (stage (a .line)) → (y : ℕ) → earlyBy y (UnderWay (attemptAt g x held)) ≤ earlyBy y (recordOf (s .dock) b)
+  pub lighter-at : (g : Stage) (x : ℕ) (held : Bool) → earlyAt g ≤ earlyAt (stage (a .line)) → (y : ℕ) → earlyBy y (UnderWay (attemptAt g x held)) ≤ earlyBy y (recordOf (s .dock) b)
   lighter-at g x held le y =
       subst (λ z. earlyBy y (UnderWay (attemptAt g x held)) ≤ earlyBy y z) (sym is)
       (subst (λ n. cond (eqb (a .serial) y) (cond (ltb n 16) 1 0) 0 ≤ cond (eqb (a .serial) y) (cond (ltb (number (a .line)) 16) 1 0) 0) (sym (number-at (side (a .line)) g))
@@ -69,7 +69,7 @@ module _ {E : Type 0} {K : ℕ} {st : Start} {h : List (Moment E)} {s : State E}
       both true = le
       both false = omega arith
 
-  roomier-at : (g : Stage) (x : ℕ) (held : Bool) → earlyAt g ≤ earlyAt (stage (a .line)) → early (UnderWay (attemptAt g x held)) ≤ early (recordOf (s .dock) b)
+  pub roomier-at : (g : Stage) (x : ℕ) (held : Bool) → earlyAt g ≤ earlyAt (stage (a .line)) → early (UnderWay (attemptAt g x held)) ≤ early (recordOf (s .dock) b)
   roomier-at g x held le =
       subst (λ z. early (UnderWay (attemptAt g x held)) ≤ early z) (sym is)
       (subst (λ n. cond (ltb n 16) 1 0 ≤ early (UnderWay a)) (sym (number-at (side (a .line)) g))

@@ -20,6 +20,8 @@ pub mod Acting
 pub mod Moving
 pub mod Storing
 pub mod Ending
+pub mod Helping
+pub mod Steps
 pub mod Rank
 pub mod Falls
 pub mod Progress
