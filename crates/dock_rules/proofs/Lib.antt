@@ -22,6 +22,7 @@ pub mod Storing
 pub mod Ending
 pub mod Helping
 pub mod Steps
+pub mod Stepping
 pub mod Rank
 pub mod Falls
 pub mod Progress

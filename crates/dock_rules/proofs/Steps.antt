@@ -170,7 +170,7 @@ module _ {E : Type 0} {K : ℕ} {st : Start} {h : List (Moment E)} {s : State E}
     calm-memory : Unshared K st h s b (s .memory)
     calm-memory = unchanged K st h s b (i .inner .static .spare)
 
-    line5 : stage (a .line) ≡ S5 → {o : Operation E} {p : Reply E} {n : Meaning E} → Way K (s .memory) b o p n → o ≡ Read (own d) → GoalAt (nextAt d S5 (st .length) (a .index) (a .held) p) n (s .trays)
+    pub line5 : stage (a .line) ≡ S5 → {o : Operation E} {p : Reply E} {n : Meaning E} → Way K (s .memory) b o p n → o ≡ Read (own d) → GoalAt (nextAt d S5 (st .length) (a .index) (a .held) p) n (s .trays)
     line5 e w is-read =
         subst (λ q. GoalAt (nextAt d S5 (st .length) (a .index) (a .held) (q .0)) (q .1) (s .trays)) (read-way w (own d) is-read)
         (goes i b inside r a runs is S6 (index (s .memory) (own d)) (a .held) (alterations (st .base) h d) (s .memory) (s .trays) calm-memory read
@@ -187,7 +187,7 @@ module _ {E : Type 0} {K : ℕ} {st : Start} {h : List (Moment E)} {s : State E}
             ap (λ y. cond (eqb y 5) (alterations (st .base) h (side (r .line))) (r .read)) (number-of i b inside r a runs is ∙ ap numberAt e)
             ∙ ap (λ l. alterations (st .base) h (side l)) (stood i b inside r a runs is .line)
 
-    line6 : stage (a .line) ≡ S6 → {o : Operation E} {p : Reply E} {n : Meaning E} → Way K (s .memory) b o p n → o ≡ Read (own (other d)) → GoalAt (nextAt d S6 (st .length) (a .index) (a .held) p) n (s .trays)
+    pub line6 : stage (a .line) ≡ S6 → {o : Operation E} {p : Reply E} {n : Meaning E} → Way K (s .memory) b o p n → o ≡ Read (own (other d)) → GoalAt (nextAt d S6 (st .length) (a .index) (a .held) p) n (s .trays)
     line6 e w is-read =
         subst (λ q. GoalAt (nextAt d S6 (st .length) (a .index) (a .held) (q .0)) (q .1) (s .trays)) (read-way w (own (other d)) is-read)
         (go (turns d (st .length) (a .index) (index (s .memory) (own (other d)))) refl)
@@ -204,7 +204,7 @@ module _ {E : Type 0} {K : ℕ} {st : Start} {h : List (Moment E)} {s : State E}
             let under : at < lim (st .length) (st .base) v d = omega (arith, le, lim-high d, apart) in
             go-to S6 e S9 (a .held) (s .memory) calm-memory refl refl (omega arith) (noted S6 e) (le, under)
 
-    line10 : stage (a .line) ≡ S10 → {o : Operation E} {p : Reply E} {n : Meaning E} → Way K (s .memory) b o p n → o ≡ Read (own d) → GoalAt (nextAt d S10 (st .length) (a .index) (a .held) p) n (s .trays)
+    pub line10 : stage (a .line) ≡ S10 → {o : Operation E} {p : Reply E} {n : Meaning E} → Way K (s .memory) b o p n → o ≡ Read (own d) → GoalAt (nextAt d S10 (st .length) (a .index) (a .held) p) n (s .trays)
     line10 e w is-read =
         subst (λ q. GoalAt (nextAt d S10 (st .length) (a .index) (a .held) (q .0)) (q .1) (s .trays)) (read-way w (own d) is-read)
         (go (eqb (index (s .memory) (own d)) (a .index)) refl)
@@ -218,7 +218,7 @@ module _ {E : Type 0} {K : ℕ} {st : Start} {h : List (Moment E)} {s : State E}
         go true fresh = by-held (is-fresh (k .0) (noted S10 e) fresh) (outrun d (a .held)) refl
         go false stale = go-to S10 e S5 (a .held) (s .memory) calm-memory refl refl (omega arith) tt tt
 
-    line12 : stage (a .line) ≡ S12 → {o : Operation E} {p : Reply E} {n : Meaning E} → Way K (s .memory) b o p n → o ≡ Mark b (At (own d)) → GoalAt (nextAt d S12 (st .length) (a .index) (a .held) p) n (s .trays)
+    pub line12 : stage (a .line) ≡ S12 → {o : Operation E} {p : Reply E} {n : Meaning E} → Way K (s .memory) b o p n → o ≡ Mark b (At (own d)) → GoalAt (nextAt d S12 (st .length) (a .index) (a .held) p) n (s .trays)
     line12 e w is-mark =
         let q = mark-way w (At (own d)) is-mark in
         subst (λ q. GoalAt (nextAt d S12 (st .length) (a .index) (a .held) (q .0)) (q .1) (s .trays)) (q .2)
@@ -239,7 +239,7 @@ module _ {E : Type 0} {K : ℕ} {st : Start} {h : List (Moment E)} {s : State E}
       | inr k ↦ inr (record { past = k .past; moment = k .moment; place = k .place; since = k .since; gives = k .gives })
       ]
 
-    line16 : stage (a .line) ≡ S16 → {o : Operation E} {p : Reply E} {n : Meaning E} → Way K (s .memory) b o p n → o ≡ Mark b (At (own d)) → GoalAt (nextAt d S16 (st .length) (a .index) (a .held) p) n (s .trays)
+    pub line16 : stage (a .line) ≡ S16 → {o : Operation E} {p : Reply E} {n : Meaning E} → Way K (s .memory) b o p n → o ≡ Mark b (At (own d)) → GoalAt (nextAt d S16 (st .length) (a .index) (a .held) p) n (s .trays)
     line16 e w is-mark =
         let q = mark-way w (At (own d)) is-mark in
         subst (λ q. GoalAt (nextAt d S16 (st .length) (a .index) (a .held) (q .0)) (q .1) (s .trays)) (q .2)
@@ -256,7 +256,7 @@ module _ {E : Type 0} {K : ℕ} {st : Start} {h : List (Moment E)} {s : State E}
             ends-late i b inside r a runs is (marked (s .memory) b (Some (At (own d))) spare) (remarked K st h s b (Some (At (own d))) spare low) (late (is-stale (noted S16 e) stale) (k .1))
 
     -- a store in the own index: accepted only where the index still is the call's
-    line17 : stage (a .line) ≡ S17 → {o : Operation E} {p : Reply E} {n : Meaning E} → Way K (s .memory) b o p n → o ≡ Store b (InIndex (own d) (wrap (a .index + 1))) → GoalAt (nextAt d S17 (st .length) (a .index) (a .held) p) n (s .trays)
+    pub line17 : stage (a .line) ≡ S17 → {o : Operation E} {p : Reply E} {n : Meaning E} → Way K (s .memory) b o p n → o ≡ Store b (InIndex (own d) (wrap (a .index + 1))) → GoalAt (nextAt d S17 (st .length) (a .index) (a .held) p) n (s .trays)
     line17 e w is-store = go (store-way w (InIndex (own d) (wrap (a .index + 1))) is-store)
       where
         k : Stands (st .length) (st .base) v d S17 r (a .held) (mark (s .memory) b) tr
@@ -274,7 +274,7 @@ module _ {E : Type 0} {K : ℕ} {st : Start} {h : List (Moment E)} {s : State E}
             subst (λ q. GoalAt (nextAt d S17 (st .length) (a .index) (a .held) (q .0)) (q .1) (s .trays)) (q .2)
             (go-to S17 e S16 (a .held) (marked (s .memory) b None (q .0)) (remarked K st h s b None (q .0) (q .1)) refl refl (omega arith) (noted S17 e) (k .0, kept-on S16 (k .1)))
 
-    line15 : stage (a .line) ≡ S15 → {o : Operation E} {p : Reply E} {n : Meaning E} → Way K (s .memory) b o p n → o ≡ Store b (InSlot (a .index % st .length) (leftIn d tr)) → GoalAt (nextAt d S15 (st .length) (a .index) (a .held) p) n (s .trays)
+    pub line15 : stage (a .line) ≡ S15 → {o : Operation E} {p : Reply E} {n : Meaning E} → Way K (s .memory) b o p n → o ≡ Store b (InSlot (a .index % st .length) (leftIn d tr)) → GoalAt (nextAt d S15 (st .length) (a .index) (a .held) p) n (s .trays)
     line15 e w is-store = go (store-way w (InSlot (a .index % st .length) (leftIn d tr)) is-store)
       where
         k : Stands (st .length) (st .base) v d S15 r (a .held) (mark (s .memory) b) tr
@@ -290,7 +290,7 @@ module _ {E : Type 0} {K : ℕ} {st : Start} {h : List (Moment E)} {s : State E}
             (go-to S15 e S5 (a .held) (marked (s .memory) b None (q .0)) (remarked K st h s b None (q .0) (q .1)) refl refl (omega arith) tt tt)
 
     -- another call's slot store is counted on its behalf
-    line13 : stage (a .line) ≡ S13 → {o : Operation E} {p : Reply E} {n : Meaning E} → Way K (s .memory) b o p n → o ≡ Store b (InIndex (own d) (wrap (a .index + 1))) → GoalAt (nextAt d S13 (st .length) (a .index) (a .held) p) n (s .trays)
+    pub line13 : stage (a .line) ≡ S13 → {o : Operation E} {p : Reply E} {n : Meaning E} → Way K (s .memory) b o p n → o ≡ Store b (InIndex (own d) (wrap (a .index + 1))) → GoalAt (nextAt d S13 (st .length) (a .index) (a .held) p) n (s .trays)
     line13 e w is-store = go (store-way w (InIndex (own d) (wrap (a .index + 1))) is-store)
       where
         k : Stands (st .length) (st .base) v d S13 r (a .held) (mark (s .memory) b) tr
@@ -307,11 +307,11 @@ module _ {E : Type 0} {K : ℕ} {st : Start} {h : List (Moment E)} {s : State E}
             (go-to S13 e S5 (a .held) (marked (s .memory) b None (q .0)) (remarked K st h s b None (q .0) (q .1)) refl refl (omega arith) tt tt)
 
     -- the tray after line 9, by what the slot holds
-    abbrev tray9 : Side → Option E → List E
+    abbrev pub tray9 : Side → Option E → List E
     tray9 Putting c = s .trays
     tray9 Taking c = found (s .trays) b c
 
-    line9 : stage (a .line) ≡ S9 → {o : Operation E} {p : Reply E} {n : Meaning E} → Way K (s .memory) b o p n → o ≡ Mark b (Slot (a .index % st .length)) → GoalAt (nextAt d S9 (st .length) (a .index) (a .held) p) n (tray9 d (contentIn p))
+    pub line9 : stage (a .line) ≡ S9 → {o : Operation E} {p : Reply E} {n : Meaning E} → Way K (s .memory) b o p n → o ≡ Mark b (Slot (a .index % st .length)) → GoalAt (nextAt d S9 (st .length) (a .index) (a .held) p) n (tray9 d (contentIn p))
     line9 e w is-mark =
         let q = mark-way w (Slot (a .index % st .length)) is-mark in
         subst (λ q. GoalAt (nextAt d S9 (st .length) (a .index) (a .held) (q .0)) (q .1) (tray9 d (contentIn (q .0)))) (q .2)
