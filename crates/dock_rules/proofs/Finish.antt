@@ -28,6 +28,10 @@ pub each-map : {X : Type 0} (P Q : X → Type 0) (xs : List X) → ((x : X) → 
 each-map P Q [] f k = tt
 each-map P Q (x ∷ xs) f k = (f x (k .0), each-map P Q xs f (k .1))
 
+-- nothing is asked of none
+pub each-none : {X : Type 0} (P : X → Type 0) (xs : List X) → xs ≡ [] → Each P xs
+each-none P xs e = subst (Each P) (sym e) tt
+
 -- two facts of each
 pub each-both : {X : Type 0} (P Q R : X → Type 0) (xs : List X) → ((x : X) → P x → Q x → R x) → Each P xs → Each Q xs → Each R xs
 each-both P Q R [] f k l = tt

@@ -23,6 +23,7 @@ pub mod Ending
 pub mod Helping
 pub mod Steps
 pub mod Stepping
+pub mod Others
 pub mod Rank
 pub mod Falls
 pub mod Progress
