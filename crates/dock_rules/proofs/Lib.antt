@@ -24,6 +24,7 @@ pub mod Helping
 pub mod Steps
 pub mod Stepping
 pub mod Others
+pub mod Starting
 pub mod Rank
 pub mod Falls
 pub mod Progress

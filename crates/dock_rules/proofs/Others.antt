@@ -56,13 +56,13 @@ module _ {E : Type 0} (L base : ℕ) where
   knows-idle v now (Ended s o) mk tr e = tt
   knows-idle v now (Owed s) mk tr e = tt
 
-idle-early : (rec : BayRecord) → attempt rec ≡ None → early rec ≡ 0
+pub idle-early : (rec : BayRecord) → attempt rec ≡ None → early rec ≡ 0
 idle-early Idle e = refl
 idle-early (UnderWay a) e = absurd (let z : _≡_ {A = ℕ} 0 1 = cc in omega arith)
 idle-early (Ended s o) e = refl
 idle-early (Owed s) e = refl
 
-idle-earlyBy : (x : ℕ) (rec : BayRecord) → attempt rec ≡ None → earlyBy x rec ≡ 0
+pub idle-earlyBy : (x : ℕ) (rec : BayRecord) → attempt rec ≡ None → earlyBy x rec ≡ 0
 idle-earlyBy x Idle e = refl
 idle-earlyBy x (UnderWay a) e = absurd (let z : _≡_ {A = ℕ} 0 1 = cc in omega arith)
 idle-earlyBy x (Ended s o) e = refl
