@@ -25,6 +25,7 @@ pub mod Steps
 pub mod Stepping
 pub mod Others
 pub mod Starting
+pub mod Granting
 pub mod Rank
 pub mod Falls
 pub mod Progress
