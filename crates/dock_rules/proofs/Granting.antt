@@ -30,11 +30,11 @@ use Rattle.dock_rules.proofs.Others.{busy-runs, quiet, settles, gives-up}
 use Rattle.dock_rules.proofs.Starting.{starts}
 
 -- no reason applies
-abbrev NoReason : List (Bool × Refusal) → Type 0
+abbrev pub NoReason : List (Bool × Refusal) → Type 0
 NoReason [] = Unit {0}
 NoReason (t ∷ ts) = (t .0 ≡ false) × NoReason ts
 
-no-reason : (ts : List (Bool × Refusal)) → first ts ≡ None → NoReason ts
+pub no-reason : (ts : List (Bool × Refusal)) → first ts ≡ None → NoReason ts
 no-reason [] e = tt
 no-reason (t ∷ ts) e = go (t .0) refl (no-reason ts) e
   where

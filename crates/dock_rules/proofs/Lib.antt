@@ -29,3 +29,5 @@ pub mod Granting
 pub mod Rank
 pub mod Falls
 pub mod Progress
+pub mod Opening
+pub mod Theorem

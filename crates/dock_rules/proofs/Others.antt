@@ -50,7 +50,7 @@ module _ {E : Type 0} (L base : ℕ) where
   busy-runs v now None a mk tr k = absurd k
   busy-runs v now (Some r) a mk tr k = (r, refl)
 
-  knows-idle : (v : View E) (now : ℕ) (rec : BayRecord) (mk : _) (tr : Option E) → attempt rec ≡ None → Knows L base v now None rec mk tr
+  pub knows-idle : (v : View E) (now : ℕ) (rec : BayRecord) (mk : _) (tr : Option E) → attempt rec ≡ None → Knows L base v now None rec mk tr
   knows-idle v now Idle mk tr e = tt
   knows-idle v now (UnderWay a) mk tr e = absurd (let z : _≡_ {A = ℕ} 0 1 = cc in omega arith)
   knows-idle v now (Ended s o) mk tr e = tt

@@ -3,7 +3,6 @@ use mathlib.Core.Path.{_≡_}
 use mathlib.Core.Bool.{true}
 use mathlib.Core.List.{List}
 use Prim.Native.Nat.{ℕ, _<_, _≤_}
-use lib.Dec.{eqb}
 use lib.ListN.{length}
 use Rattle.std.specs.declared.option.Option.{Option}
 use Rattle.std.specs.declared.option.Option.the-variants.{Some, None}
@@ -16,7 +15,7 @@ use Rattle.dock_rules.specs.declared.BayRecord.{BayRecord}
 use Rattle.dock_rules.specs.declared.BayRecord.the-variants.{Free as Idle, UnderWay, Ended, Owed}
 use Rattle.dock_rules.specs.Words.{Side, Putting, Taking, side, number}
 use Rattle.dock_rules.specs.Calls.{recordOf}
-use Rattle.dock_rules.specs.History.{Moment, Running, indexIn, alterations, running, waiting}
+use Rattle.dock_rules.specs.History.{Moment, Running, indexIn, running, waiting}
 use Rattle.dock_rules.specs.Runs.{Start, State}
 
 -- the index of a side
@@ -44,14 +43,11 @@ module _ {E : Type 0} where
     pub marks : length (s .memory .marks) ≡ 16
     pub slots : length (s .memory .slots) ≡ st .length
     pub some : 0 < st .length
-    pub trays : length (s .trays) ≡ st .bays
     pub spare : s .memory .spare ≤ K
     -- at most one call waits on either side
     pub one : (d : Side) → length (waiting (st .base) h d) ≤ 1
     pub indices : (d : Side) → index (s .memory) (own d) ≡ indexIn (st .base) h d
     pub tied : (b : ℕ) → b < st .bays → Tied (running (st .base) h b) (recordOf (s .dock) b)
-    -- past its first line, a call's index is what the memory has exactly if it was not altered since
-    pub reads : (b : ℕ) → b < st .bays → (r : Running E) (a : Attempt) → running (st .base) h b ≡ Some r → recordOf (s .dock) b ≡ UnderWay a → (number (a .line) ≡ 5 → ⊥) → eqb (indexIn (st .base) h (side (a .line))) (a .index) ≡ eqb (r .read) (alterations (st .base) h (side (a .line)))
     -- a live store at line 13 finds a call that waits
     pub behind : (b : ℕ) → b < st .bays → (a : Attempt) → recordOf (s .dock) b ≡ UnderWay a → number (a .line) ≡ 13 → live (s .memory) b (At (own (side (a .line)))) ≡ true → 0 < length (waiting (st .base) h (side (a .line)))
     -- and the index is still as the call read it
