@@ -111,6 +111,7 @@ module _ {E : Type 0} {K : ℕ} {st : Start} {h : List (Moment E)} {s : State E}
     where
       W : World E
       W = handing s (s .trays) k
+
       go : (r : BayRecord) → recordOf (s .dock) b ≡ r → not (options.isSome (attempt r)) ≡ false → options.Cases (attempted W b (attempt r)) (Unit {0}) (λ o. May K (s .memory) o f) → After (Step b) (s .trays) (step W b (attempt r) f)
       go Idle is idle may = absurd (true≢false idle)
       go (UnderWay a) is idle may =
@@ -125,6 +126,7 @@ module _ {E : Type 0} {K : ℕ} {st : Start} {h : List (Moment E)} {s : State E}
     where
       W : World E
       W = handing s t k
+
       go : (r : BayRecord) → recordOf (s .dock) b ≡ r → not (isIt x (serialOf r)) ≡ false → options.isSome (attempt r) ≡ false → After (Collect b x) t (collect W b x (outcome r))
       go Idle is mine late = absurd (true≢false mine)
       go (UnderWay a) is mine late = absurd (true≢false late)
@@ -136,6 +138,7 @@ module _ {E : Type 0} {K : ℕ} {st : Start} {h : List (Moment E)} {s : State E}
     where
       W : World E
       W = handing s t k
+
       go : (r : BayRecord) → recordOf (s .dock) b ≡ r → not (isIt x (serialOf r)) ≡ false → options.isSome (outcome r) ≡ false → After (Abandon b x) t (abandon W b x (attempt r))
       go Idle is mine late = absurd (true≢false mine)
       go (UnderWay a) is mine late = with-none (Abandon b x) t _ (abandon W b x (Some a) .1) hd refl (gives-up i b x a lt is (eqb-true _ _ (not-false _ mine)))
@@ -153,7 +156,7 @@ module _ {E : Type 0} {K : ℕ} {st : Start} {h : List (Moment E)} {s : State E}
       let own = handed-own t hd (ok .1 .0) in
       subst (λ t. After (Put b e) t (granted (handing s t k) (Put b e) f)) (sym own)
       (with-own (Put b e) _ (granted (handing s (s .trays) k) (Put b e) f .1)
-        (starts i b lt (PutOf e) (set (s .trays) b e) (free-idle (recordOf (s .dock) b) (not-false _ (ok .1 .1 .1 .0))) (leb-false _ _ (ok .1 .1 .1 .1 .0)) (length-set (s .trays) b e) (λ o n. nth-set-other (s .trays) b o e n) (put-tray b e (s .trays) refl lt) (Put b e) _ refl))
+      (starts i b lt (PutOf e) (set (s .trays) b e) (free-idle (recordOf (s .dock) b) (not-false _ (ok .1 .1 .1 .0))) (leb-false _ _ (ok .1 .1 .1 .1 .0)) (length-set (s .trays) b e) (λ o n. nth-set-other (s .trays) b o e n) (put-tray b e (s .trays) refl lt) (Put b e) _ refl))
   grants (Take b) t k f hd ok may =
       let lt = inside-of b (ok .1 .0) in
       with-none (Take b) t _ (granted (handing s t k) (Take b) f .1) hd refl

@@ -34,14 +34,14 @@ module _ {E : Type 0} {K : ℕ} {st : Start} {h : List (Moment E)} {s : State E}
       let calm : (eqb (numberAt (stage (a .line))) 15 && eqb (numberAt S5) 16) ≡ false = subst (λ y. (eqb (numberAt y) 15 && eqb (numberAt S5) 16) ≡ false) (sym at13) refl in
       moved K st h s b i
       (moving-move i (Step b) (StandsAt (lineAt d S5)) b rec (Some (arrived i b inside r a runs is S5 (r .read))) d w (a .index) spare inside low here one refl
-        (runs-to i b inside r a runs is S5 (r .read) read)
-        (stood-at i b inside r a runs is (moving (st .length) (st .base) (suc (length h)) d (viewOf st h s) w) S5 (a .index) (a .held) (r .read) (mark (bumped i d (a .index) spare) b) (nth (s .trays) b) tt (stood i b inside r a runs is .tray) tt)
-        (lighter-at i b inside r a runs is S5 (a .index) (a .held) le)
-        (roomier-at i b inside r a runs is S5 (a .index) (a .held) le)
-        (no-store i b inside r a runs is S5 calm)
-        refl
-        refl
-        tt)
+      (runs-to i b inside r a runs is S5 (r .read) read)
+      (stood-at i b inside r a runs is (moving (st .length) (st .base) (suc (length h)) d (viewOf st h s) w) S5 (a .index) (a .held) (r .read) (mark (bumped i d (a .index) spare) b) (nth (s .trays) b) tt (stood i b inside r a runs is .tray) tt)
+      (lighter-at i b inside r a runs is S5 (a .index) (a .held) le)
+      (roomier-at i b inside r a runs is S5 (a .index) (a .held) le)
+      (no-store i b inside r a runs is S5 calm)
+      refl
+      refl
+      tt)
     where
       read : cond (eqb (number (r .line)) 5) (alterations (st .base) h (side (r .line))) (r .read) ≡ r .read
       read = ap (λ y. cond (eqb y 5) (alterations (st .base) h (side (r .line))) (r .read)) (number-of i b inside r a runs is ∙ ap numberAt at13)

@@ -81,12 +81,12 @@ module _ {E : Type 0} {K : ℕ} {st : Start} {h : List (Moment E)} {s : State E}
       let m = momentOf c an s in
       let runs : (b : ℕ) → running (st .base) (m ∷ h) b ≡ running (st .base) h b = λ b. ap (λ x. runningAfter x b now (alterations (st .base) h) (running (st .base) h b)) e in
       let happens : Happens st m h false false [] [] [] = record {
-            tail = same-index st m h Putting (i .indices Putting);
-            head = same-index st m h Taking (i .indices Taking);
-            puts = ap (λ x. storedBy Putting x (running (st .base) h)) e;
-            takes = ap (λ x. storedBy Taking x (running (st .base) h)) e;
-            turned = ap (λ x. turnedBy x (running (st .base) h)) e;
-          }
+        tail = same-index st m h Putting (i .indices Putting);
+        head = same-index st m h Taking (i .indices Taking);
+        puts = ap (λ x. storedBy Putting x (running (st .base) h)) e;
+        takes = ap (λ x. storedBy Taking x (running (st .base) h)) e;
+        turned = ap (λ x. turnedBy x (running (st .base) h)) e;
+      }
       in
       finish i m s v
       (record {
@@ -116,17 +116,17 @@ module _ {E : Type 0} {K : ℕ} {st : Start} {h : List (Moment E)} {s : State E}
       let none = idle-runs (st .length) (st .base) v (length h) (running (st .base) h b) (recordOf (s .dock) b) (mark (s .memory) b) (nth (s .trays) b) (i .inner .knows b inside) was in
       moved K st h s b i
       (calm-move K st h s b c an rec (s .memory) (s .trays) None i inside (unchanged K st h s b (i .inner .static .spare))
-        (subst (About b now (alterations (st .base) h) (running (st .base) h)) (sym e) tt)
-        (ap (λ x. runningAfter x b now (alterations (st .base) h) (running (st .base) h b)) e ∙ none)
-        refl
-        (λ o n. refl)
-        (knows-idle (st .length) (st .base) v now rec (mark (s .memory) b) (nth (s .trays) b) is)
-        (λ x. omega (arith, idle-earlyBy x rec is))
-        (omega (arith, idle-early rec is))
-        (elim [ Putting ↦ ap (λ x. storedBy Putting x (running (st .base) h)) e | Taking ↦ ap (λ x. storedBy Taking x (running (st .base) h)) e ])
-        (ap (λ x. turnedBy x (running (st .base) h)) e)
-        (each-none _ _ (ap (λ x. endedBy x now (s .trays) (running (st .base) h)) e))
-        (each-none _ _ (ap (λ x. untouchedBy x (running (st .base) h)) e)))
+      (subst (About b now (alterations (st .base) h) (running (st .base) h)) (sym e) tt)
+      (ap (λ x. runningAfter x b now (alterations (st .base) h) (running (st .base) h b)) e ∙ none)
+      refl
+      (λ o n. refl)
+      (knows-idle (st .length) (st .base) v now rec (mark (s .memory) b) (nth (s .trays) b) is)
+      (λ x. omega (arith, idle-earlyBy x rec is))
+      (omega (arith, idle-early rec is))
+      (elim [ Putting ↦ ap (λ x. storedBy Putting x (running (st .base) h)) e | Taking ↦ ap (λ x. storedBy Taking x (running (st .base) h)) e ])
+      (ap (λ x. turnedBy x (running (st .base) h)) e)
+      (each-none _ _ (ap (λ x. endedBy x now (s .trays) (running (st .base) h)) e))
+      (each-none _ _ (ap (λ x. untouchedBy x (running (st .base) h)) e)))
 
   left-idle : (x : ℕ) (a : Abandoned) → attempt (afterLeft x a) ≡ None
   left-idle x Untouched = refl
@@ -141,29 +141,32 @@ module _ {E : Type 0} {K : ℕ} {st : Start} {h : List (Moment E)} {s : State E}
       let p = busy-runs (st .length) (st .base) v (length h) (running (st .base) h b) a (mark (s .memory) b) (nth (s .trays) b) (subst (λ y. Knows (st .length) (st .base) v (length h) (running (st .base) h b) y (mark (s .memory) b) (nth (s .trays) b)) is (i .inner .knows b inside)) in
       moved K st h s b i
       (calm-move K st h s b (Abandon b x) (Left (leftAt (a .line))) rec (s .memory) (s .trays) None i inside (unchanged K st h s b (i .inner .static .spare))
-        refl
-        (gives-own b now (alterations (st .base) h) (running (st .base) h) (leftAt (a .line)))
-        refl
-        (λ o n. refl)
-        (knows-idle (st .length) (st .base) v now rec (mark (s .memory) b) (nth (s .trays) b) idle)
-        (λ y. omega (arith, idle-earlyBy y rec idle))
-        (omega (arith, idle-early rec idle))
-        (λ o. refl)
-        refl
-        tt
-        (untold (running (st .base) h b) (p .0) (p .1) (stood i b inside (p .0) a (p .1) is .serial)))
+      refl
+      (gives-own b now (alterations (st .base) h) (running (st .base) h) (leftAt (a .line)))
+      refl
+      (λ o n. refl)
+      (knows-idle (st .length) (st .base) v now rec (mark (s .memory) b) (nth (s .trays) b) idle)
+      (λ y. omega (arith, idle-earlyBy y rec idle))
+      (omega (arith, idle-early rec idle))
+      (λ o. refl)
+      refl
+      tt
+      (untold (running (st .base) h b) (p .0) (p .1) (stood i b inside (p .0) a (p .1) is .serial)))
     where
       -- a call that is given up as untouched weighed all that its serial weighs, and has no place
       Away : Running E → Type 0
       Away q = (q .serial ≤ s .dock .started) × (earlyBy (q .serial) (afterLeft x (leftAt (a .line))) + 1 ≤ earlyBy (q .serial) (recordOf (s .dock) b)) × (places (q .serial) (v .ps) ≡ [])
+
       alone : (r : Running E) → r .serial ≡ a .serial → ltb (number (a .line)) 16 ≡ true → Away r
       alone r e below =
           let w = early-weighs st v s (i .inner .once) b a inside is below in
           let was : earlyBy (r .serial) (recordOf (s .dock) b) ≡ 1 = ap (λ y. earlyBy y (recordOf (s .dock) b)) e ∙ ap (earlyBy (a .serial)) is ∙ early-own a below in
           (subst (λ y. y ≤ s .dock .started) (sym e) (w .2), omega (arith, idle-earlyBy (r .serial) (afterLeft x (leftAt (a .line))) (left-idle x (leftAt (a .line)))), ap (λ y. places y (v .ps)) e ∙ w .0)
+
       by-line : (r : Running E) → r .serial ≡ a .serial → (t k : Bool) → ltb (number (a .line)) 16 ≡ t → Each Away (when (isUntouched (cond t Untouched (cond k TakenAway StoredAway))) (Some r))
       by-line r e true k below = (alone r e below, tt)
       by-line r e false true below = tt
       by-line r e false false below = tt
+
       untold : (o : Option (Running E)) (r : Running E) → o ≡ Some r → r .serial ≡ a .serial → Each Away (when (isUntouched (leftAt (a .line))) o)
       untold o r is-some e = subst (λ y. Each Away (when (isUntouched (leftAt (a .line))) y)) (sym is-some) (by-line r e (ltb (number (a .line)) 16) (isTaking (side (a .line))) refl)

@@ -112,12 +112,12 @@ module _ {E : Type 0} {K : ℕ} {st : Start} {h : List (Moment E)} {s : State E}
   starts c an e =
       let m = momentOf c an started in
       let happens : Happens st m h false false [] [] [] = record {
-            tail = same-index st m h Putting (i .indices Putting);
-            head = same-index st m h Taking (i .indices Taking);
-            puts = ap (λ x. storedBy Putting x (running (st .base) h)) e;
-            takes = ap (λ x. storedBy Taking x (running (st .base) h)) e;
-            turned = ap (λ x. turnedBy x (running (st .base) h)) e;
-          }
+        tail = same-index st m h Putting (i .indices Putting);
+        head = same-index st m h Taking (i .indices Taking);
+        puts = ap (λ x. storedBy Putting x (running (st .base) h)) e;
+        takes = ap (λ x. storedBy Taking x (running (st .base) h)) e;
+        turned = ap (λ x. turnedBy x (running (st .base) h)) e;
+      }
       in
       finish i m started v
       (record {
@@ -142,9 +142,9 @@ module _ {E : Type 0} {K : ℕ} {st : Start} {h : List (Moment E)} {s : State E}
         shared = i .inner .shared;
         asks = i .inner .asks;
         knows = λ o lt. elim (cases-eq o b) [
-            inl k ↦ subst (λ x. Knows (st .length) (st .base) v now (running (st .base) (m ∷ h) x) (recordOf (started .dock) x) (mark (s .memory) x) (nth trs x)) (sym k) (here c an e)
+          | inl k ↦ subst (λ x. Knows (st .length) (st .base) v now (running (st .base) (m ∷ h) x) (recordOf (started .dock) x) (mark (s .memory) x) (nth trs x)) (sym k) (here c an e)
           | inr n ↦ other c an e o lt n
-          ];
+        ];
         once = still-once;
         room = omega (arith, grows, i .inner .room);
       })
@@ -162,6 +162,7 @@ module _ {E : Type 0} {K : ℕ} {st : Start} {h : List (Moment E)} {s : State E}
       here c an e =
           subst (λ x. Knows (st .length) (st .base) v now x (recordOf (started .dock) b) (mark (s .memory) b) (nth trs b)) (sym (ap (λ x. runningAfter x b now (alterations (st .base) h) (running (st .base) h b)) e ∙ starts-own b now (alterations (st .base) h) (running (st .base) h) q serial))
           (subst (λ x. Knows (st .length) (st .base) v now (Some (begins q serial now)) x (mark (s .memory) b) (nth trs b)) (sym own-record) stands-first)
+
       other : (c : Call E) (an : Answer) → eventOf c an ≡ Starts b q serial → (o : ℕ) → o < st .bays → (o ≡ b → ⊥) → Knows (st .length) (st .base) v now (running (st .base) (momentOf c an started ∷ h) o) (recordOf (started .dock) o) (mark (s .memory) o) (nth trs o)
       other c an e o lt n =
           subst (λ x. Knows (st .length) (st .base) v now x (recordOf (started .dock) o) (mark (s .memory) o) (nth trs o)) (sym (ap (λ x. runningAfter x o now (alterations (st .base) h) (running (st .base) h o)) e ∙ runs-other b now (alterations (st .base) h) (running (st .base) h) (Starts b q serial) o refl n))

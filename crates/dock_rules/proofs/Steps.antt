@@ -104,6 +104,7 @@ module _ {E : Type 0} {K : ℕ} {st : Start} {h : List (Moment E)} {s : State E}
       full : (q : List E) → 0 < length q → isSome (nth q 0) ≡ true
       full [] h = absurd (omega arith)
       full (x ∷ q) h = refl
+
       go : (tk : List (Running E)) → Shared (st .length) (v .H) (v .T) (v .slots) (v .puts) tk (queueOf (st .length) (st .base) v) → 0 < length tk
       go [] sh =
           let held = ap isSome (head-slot-held (st .length) (v .H) (v .T) (v .slots) (v .puts) (queueOf (st .length) (st .base) v) sh below) ∙ full (queueOf (st .length) (st .base) v) (omega (arith, sh .tail)) in
@@ -174,13 +175,13 @@ module _ {E : Type 0} {K : ℕ} {st : Start} {h : List (Moment E)} {s : State E}
     line5 e w is-read =
         subst (λ q. GoalAt (nextAt d S5 (st .length) (a .index) (a .held) (q .0)) (q .1) (s .trays)) (read-way w (own d) is-read)
         (goes i b inside r a runs is S6 (index (s .memory) (own d)) (a .held) (alterations (st .base) h d) (s .memory) (s .trays) calm-memory read
-          (subst (λ y. (eqb (numberAt y) 15 && eqb (numberAt S6) 16) ≡ false) (sym e) refl)
-          (subst (λ y. earlyAt S6 ≤ earlyAt y) (sym e) (omega arith))
-          refl
-          (λ o n. refl)
-          (i .inner .wraps d ∙ ap wrap (count-is d))
-          (stood i b inside r a runs is .tray)
-          (omega (arith, count-is d)))
+        (subst (λ y. (eqb (numberAt y) 15 && eqb (numberAt S6) 16) ≡ false) (sym e) refl)
+        (subst (λ y. earlyAt S6 ≤ earlyAt y) (sym e) (omega arith))
+        refl
+        (λ o n. refl)
+        (i .inner .wraps d ∙ ap wrap (count-is d))
+        (stood i b inside r a runs is .tray)
+        (omega (arith, count-is d)))
       where
         read : cond (eqb (number (r .line)) 5) (alterations (st .base) h (side (r .line))) (r .read) ≡ alterations (st .base) h d
         read =
@@ -194,6 +195,7 @@ module _ {E : Type 0} {K : ℕ} {st : Start} {h : List (Moment E)} {s : State E}
       where
         le : at ≤ count v d
         le = facts S6 e
+
         go : (t : Bool) → turns d (st .length) (a .index) (index (s .memory) (own (other d))) ≡ t → GoalAt (cond t (Ends (turnedAway d)) (To (lineAt d S9) (a .index) (a .held))) (s .memory) (s .trays)
         go true turned =
             let x = eqb-true _ _ (sym (turns-lim d (a .index)) ∙ turned) in
@@ -211,9 +213,11 @@ module _ {E : Type 0} {K : ℕ} {st : Start} {h : List (Moment E)} {s : State E}
       where
         k : Stands (st .length) (st .base) v d S10 r (a .held) (mark (s .memory) b) tr
         k = facts S10 e
+
         by-held : at ≡ count v d → (t : Bool) → outrun d (a .held) ≡ t → GoalAt (cond t (To (lineAt d S12) (a .index) (a .held)) (To (lineAt d S15) (a .index) (a .held))) (s .memory) (s .trays)
         by-held same true busy = go-to S10 e S12 (a .held) (s .memory) calm-memory refl refl (omega arith) (noted S10 e) (k .0, k .2 busy)
         by-held same false busy = go-to S10 e S15 (a .held) (s .memory) calm-memory refl refl (omega arith) (noted S10 e) (k .0, k .1, λ on. (same, k .3 busy on))
+
         go : (t : Bool) → eqb (index (s .memory) (own d)) (a .index) ≡ t → GoalAt (cond t (cond (outrun d (a .held)) (To (lineAt d S12) (a .index) (a .held)) (To (lineAt d S15) (a .index) (a .held))) (To (lineAt d S5) (a .index) (a .held))) (s .memory) (s .trays)
         go true fresh = by-held (is-fresh (k .0) (noted S10 e) fresh) (outrun d (a .held)) refl
         go false stale = go-to S10 e S5 (a .held) (s .memory) calm-memory refl refl (omega arith) tt tt
@@ -226,6 +230,7 @@ module _ {E : Type 0} {K : ℕ} {st : Start} {h : List (Moment E)} {s : State E}
       where
         k : Stands (st .length) (st .base) v d S12 r (a .held) (mark (s .memory) b) tr
         k = facts S12 e
+
         go : (spare : ℕ) → spare ≤ K → (t : Bool) → eqb (index (s .memory) (own d)) (a .index) ≡ t → GoalAt (cond t (To (lineAt d S13) (a .index) (a .held)) (To (lineAt d S5) (a .index) (a .held))) (marked (s .memory) b (Some (At (own d))) spare) (s .trays)
         go spare low true fresh =
             let same = is-fresh (k .0) (noted S12 e) fresh in
@@ -235,9 +240,9 @@ module _ {E : Type 0} {K : ℕ} {st : Start} {h : List (Moment E)} {s : State E}
     -- the call that stood at line 16 or 17 is the same at the other
     kept-on : (to : Stage) → Kept (st .length) (st .base) v d r tr → Kept (st .length) (st .base) v d (arrived i b inside r a runs is to (r .read)) tr
     kept-on to = elim [
-        inl k ↦ inl (record { at = k .at; it = k .it; only = k .only; serial = k .serial; first = k .first })
+      | inl k ↦ inl (record { at = k .at; it = k .it; only = k .only; serial = k .serial; first = k .first })
       | inr k ↦ inr (record { past = k .past; moment = k .moment; place = k .place; since = k .since; gives = k .gives })
-      ]
+    ]
 
     pub line16 : stage (a .line) ≡ S16 → {o : Operation E} {p : Reply E} {n : Meaning E} → Way K (s .memory) b o p n → o ≡ Mark b (At (own d)) → GoalAt (nextAt d S16 (st .length) (a .index) (a .held) p) n (s .trays)
     line16 e w is-mark =
@@ -247,8 +252,10 @@ module _ {E : Type 0} {K : ℕ} {st : Start} {h : List (Moment E)} {s : State E}
       where
         k : Stands (st .length) (st .base) v d S16 r (a .held) (mark (s .memory) b) tr
         k = facts S16 e
+
         late : (at ≡ count v d → ⊥) → Kept (st .length) (st .base) v d r tr → Counted (st .length) (st .base) v d r tr
         late apart = elim [ inl q ↦ absurd (apart (q .at)) | inr q ↦ q ]
+
         go : (spare : ℕ) → spare ≤ K → (t : Bool) → eqb (index (s .memory) (own d)) (a .index) ≡ t → GoalAt (cond t (To (lineAt d S17) (a .index) (a .held)) (Ends (carriedOut d))) (marked (s .memory) b (Some (At (own d))) spare) (s .trays)
         go spare low true fresh =
             go-to S16 e S17 (a .held) (marked (s .memory) b (Some (At (own d))) spare) (remarked K st h s b (Some (At (own d))) spare low) refl refl (omega arith) (noted S16 e) (k .0, kept-on S17 (k .1), λ on. is-fresh (k .0) (noted S16 e) fresh)
@@ -261,8 +268,10 @@ module _ {E : Type 0} {K : ℕ} {st : Start} {h : List (Moment E)} {s : State E}
       where
         k : Stands (st .length) (st .base) v d S17 r (a .held) (mark (s .memory) b) tr
         k = facts S17 e
+
         waits : at ≡ count v d → Kept (st .length) (st .base) v d r tr → Waits (st .length) (st .base) v d r tr
         waits same = elim [ inl q ↦ q | inr q ↦ absurd (omega (arith, q .past)) ]
+
         go : {p : Reply E} {n : Meaning E} → ((spare : ℕ) × (spare ≤ K) × (onIndex d (mark (s .memory) b) ≡ true) × _≡_ {A = Reply E × Meaning E} (Verdict Accepted, bumped i d (a .index) spare) (p, n)) ⊎ ((spare : ℕ) × (spare ≤ K) × _≡_ {A = Reply E × Meaning E} (Verdict Refused, marked (s .memory) b None spare) (p, n)) → GoalAt (nextAt d S17 (st .length) (a .index) (a .held) p) n (s .trays)
         go (inl q) =
             let same = k .2 (q .2) in
@@ -279,6 +288,7 @@ module _ {E : Type 0} {K : ℕ} {st : Start} {h : List (Moment E)} {s : State E}
       where
         k : Stands (st .length) (st .base) v d S15 r (a .held) (mark (s .memory) b) tr
         k = facts S15 e
+
         go : {p : Reply E} {n : Meaning E} → ((spare : ℕ) × (spare ≤ K) × (isOn (Slot (a .index % st .length)) (mark (s .memory) b) ≡ true) × _≡_ {A = Reply E × Meaning E} (Verdict Accepted, written (s .memory) (InSlot (a .index % st .length) (leftIn d tr)) spare) (p, n)) ⊎ ((spare : ℕ) × (spare ≤ K) × _≡_ {A = Reply E × Meaning E} (Verdict Refused, marked (s .memory) b None spare) (p, n)) → GoalAt (nextAt d S15 (st .length) (a .index) (a .held) p) n (s .trays)
         go (inl q) =
             let slot = slot-is (noted S15 e) in
@@ -295,6 +305,7 @@ module _ {E : Type 0} {K : ℕ} {st : Start} {h : List (Moment E)} {s : State E}
       where
         k : Stands (st .length) (st .base) v d S13 r (a .held) (mark (s .memory) b) tr
         k = facts S13 e
+
         go : {p : Reply E} {n : Meaning E} → ((spare : ℕ) × (spare ≤ K) × (onIndex d (mark (s .memory) b) ≡ true) × _≡_ {A = Reply E × Meaning E} (Verdict Accepted, bumped i d (a .index) spare) (p, n)) ⊎ ((spare : ℕ) × (spare ≤ K) × _≡_ {A = Reply E × Meaning E} (Verdict Refused, marked (s .memory) b None spare) (p, n)) → GoalAt (nextAt d S13 (st .length) (a .index) (a .held) p) n (s .trays)
         go (inl q) =
             let old = k .1 (q .2) in
@@ -319,19 +330,25 @@ module _ {E : Type 0} {K : ℕ} {st : Start} {h : List (Moment E)} {s : State E}
       where
         k : Stands (st .length) (st .base) v d S9 r (a .held) (mark (s .memory) b) tr
         k = facts S9 e
+
         seen : Option E
         seen = getD (s .memory .slots) (a .index % st .length) None
+
         seen-is : seen ≡ content (st .length) (st .base) v at
         seen-is = ap (λ j. getD (s .memory .slots) j None) (slot-is (noted S9 e))
+
         behind : outrun d (isSome seen) ≡ true → at ≡ count v d → Behind v d
         behind busy same = busy-behind d (subst (λ y. y < lim (st .length) (st .base) v d) same (k .1)) (ap (λ c. outrun d (isSome c)) (ap (content (st .length) (st .base) v) (sym same) ∙ sym seen-is) ∙ busy)
+
         -- what the trays hold then, and that the slot is as the side wants it unless it is busy
         trays-now : (o : Side) (c : Option E) → (length (tray9 o c) ≡ length (s .trays)) × ((x : ℕ) → (x ≡ b → ⊥) → nth (tray9 o c) x ≡ nth (s .trays) x)
         trays-now Putting c = (refl, λ x n. refl)
         trays-now Taking None = (refl, λ x n. refl)
         trays-now Taking (Some y) = (length-set (s .trays) b y, λ x n. nth-set-other (s .trays) b x y n)
+
         long : b < length (s .trays)
         long = omega (arith, i .inner .static .trays)
+
         tray-now : (o : Side) (c : Option E) → sideOf (r .request) ≡ o → TrayOf (r .request) tr → TrayOf (r .request) (nth (tray9 o c) b)
         tray-now Putting c asks t = t
         tray-now Taking c asks t = go (r .request) c asks t
@@ -340,10 +357,12 @@ module _ {E : Type 0} {K : ℕ} {st : Start} {h : List (Moment E)} {s : State E}
             go (PutOf x) c asks t = absurd (let z : _≡_ {A = ℕ} 0 1 = cc in omega arith)
             go TakeOf None asks t = t
             go TakeOf (Some y) asks t = ap isSome (nth-set-same (s .trays) b y long)
+
         ready-now : (o : Side) (c : Option E) → content (st .length) (st .base) v at ≡ c → outrun o (isSome c) ≡ false → Ready (st .length) (st .base) v o at (nth (tray9 o c) b)
         ready-now Putting c same calm = same ∙ none-or-some c calm
         ready-now Taking None same calm = absurd (true≢false calm)
         ready-now Taking (Some y) same calm = same ∙ sym (nth-set-same (s .trays) b y long)
+
         arrives : (spare : ℕ) → spare ≤ K → GoalAt (To (lineAt d S10) (a .index) (isSome seen)) (marked (s .memory) b (Some (Slot (a .index % st .length))) spare) (tray9 d seen)
         arrives spare low =
             goes i b inside r a runs is S10 (a .index) (isSome seen) (r .read) (marked (s .memory) b (Some (Slot (a .index % st .length))) spare) (tray9 d seen) (remarked K st h s b (Some (Slot (a .index % st .length))) spare low)

@@ -5,10 +5,9 @@
 --
 -- Assumes nothing.
 use mathlib.Core.Bool.{Bool, true, false}
-use mathlib.Core.List.{List, _++_}
+use mathlib.Core.List.{List}
 use Prim.Native.Nat.{ℕ}
 use lib.Chars.{codes}
-use Rattle.std.specs.Written.{decimal}
 use Rattle.dock_rules.specs.declared.Line.{Line}
 use Rattle.dock_rules.specs.declared.Line.the-variants.{E5, E6, E9, E10, E12, E13, E15, E16, E17, D5, D6, D9, D10, D12, D13, D15, D16, D17}
 use Rattle.dock_rules.specs.declared.Outcome.{Outcome}
@@ -66,12 +65,25 @@ number D15 = 15
 number D16 = 16
 number D17 = 17
 
-abbrev pub letter : Side → List ℕ
-letter Putting = codes "E"
-letter Taking = codes "D"
-
 abbrev pub label : Line → List ℕ
-label l = letter (side l) ++ decimal (number l)
+label E5 = codes "E5"
+label E6 = codes "E6"
+label E9 = codes "E9"
+label E10 = codes "E10"
+label E12 = codes "E12"
+label E13 = codes "E13"
+label E15 = codes "E15"
+label E16 = codes "E16"
+label E17 = codes "E17"
+label D5 = codes "D5"
+label D6 = codes "D6"
+label D9 = codes "D9"
+label D10 = codes "D10"
+label D12 = codes "D12"
+label D13 = codes "D13"
+label D15 = codes "D15"
+label D16 = codes "D16"
+label D17 = codes "D17"
 
 abbrev pub outcomeWord : Outcome → List ℕ
 outcomeWord Full = codes "FULL"

@@ -1,6 +1,11 @@
 // The rules of the dock: what callers see, as enums with all their cases; the dock's own record; and
 // in `specs/` the lines, the calls, runs of calls and the law that every run obeys.
+ghost use mathlib.Core.Path.{_≡_};
+ghost use Rattle.std.specs.declared.option.Option.the-variants.{Some};
+ghost use Rattle.dock_rules.specs.Runs.{EveryRun};
+ghost use Rattle.dock_rules.specs.Words.{label, outcomeWord, abandonedWord, refusalNumber, refusalWord};
 use slot_memory::Bay;
+use std::fmt;
 
 /// Where a bay's call stands: the line that its next step runs. Lines of a put begin with E, lines
 /// of a take with D.
@@ -123,4 +128,126 @@ pub struct DockState {
     /// How many calls have been started: the serial of the last.
     pub started: u32,
     pub records: [BayRecord; 16],
+}
+
+impl Refusal {
+    /// The number of the reason, by which it is printed.
+    pub fn number(self) -> u8
+        ensures { λ r. ⌜ r ≡ refusalNumber self ⌝ }
+    {
+        match self {
+            Refusal::Open => 1,
+            Refusal::Length => 2,
+            Refusal::Bays => 3,
+            Refusal::Life => 4,
+            Refusal::Shut => 5,
+            Refusal::Trays => 6,
+            Refusal::Bay => 7,
+            Refusal::Busy => 8,
+            Refusal::Worn => 9,
+            Refusal::Idle => 10,
+            Refusal::Serial => 11,
+            Refusal::Early => 12,
+            Refusal::Late => 13,
+            Refusal::Book => 14,
+        }
+    }
+}
+
+impl Line {
+    /// The line's label.
+    pub fn text(self) -> &'static str
+        ensures { λ r. ⌜ now r ≡ label self ⌝ }
+    {
+        match self {
+            Line::E5 => "E5",
+            Line::E6 => "E6",
+            Line::E9 => "E9",
+            Line::E10 => "E10",
+            Line::E12 => "E12",
+            Line::E13 => "E13",
+            Line::E15 => "E15",
+            Line::E16 => "E16",
+            Line::E17 => "E17",
+            Line::D5 => "D5",
+            Line::D6 => "D6",
+            Line::D9 => "D9",
+            Line::D10 => "D10",
+            Line::D12 => "D12",
+            Line::D13 => "D13",
+            Line::D15 => "D15",
+            Line::D16 => "D16",
+            Line::D17 => "D17",
+        }
+    }
+}
+
+pub impl fmt::Display for Line as LineDisplay {
+    ghost shown = { λ x. Some (label x) };
+
+    fn fmt<W: fmt::Write>(&self, f: &mut fmt::Formatter<W>) -> fmt::Result {
+        f.write_str(self.text())
+    }
+}
+
+pub impl fmt::Display for Outcome as OutcomeDisplay {
+    ghost shown = { λ x. Some (outcomeWord x) };
+
+    fn fmt<W: fmt::Write>(&self, f: &mut fmt::Formatter<W>) -> fmt::Result {
+        f.write_str(
+            match self {
+                Outcome::Full => "FULL",
+                Outcome::Stored => "STORED",
+                Outcome::Empty => "EMPTY",
+                Outcome::Taken => "TAKEN",
+            },
+        )
+    }
+}
+
+pub impl fmt::Display for Abandoned as AbandonedDisplay {
+    ghost shown = { λ x. Some (abandonedWord x) };
+
+    fn fmt<W: fmt::Write>(&self, f: &mut fmt::Formatter<W>) -> fmt::Result {
+        f.write_str(
+            match self {
+                Abandoned::Untouched => "UNTOUCHED",
+                Abandoned::Stored => "STORED",
+                Abandoned::Taken => "TAKEN",
+            },
+        )
+    }
+}
+
+pub impl fmt::Display for Refusal as RefusalDisplay {
+    ghost shown = { λ x. Some (refusalWord x) };
+
+    fn fmt<W: fmt::Write>(&self, f: &mut fmt::Formatter<W>) -> fmt::Result {
+        f.write_str(
+            match self {
+                Refusal::Open => "OPEN",
+                Refusal::Length => "LENGTH",
+                Refusal::Bays => "BAYS",
+                Refusal::Life => "LIFE",
+                Refusal::Shut => "SHUT",
+                Refusal::Trays => "TRAYS",
+                Refusal::Bay => "BAY",
+                Refusal::Busy => "BUSY",
+                Refusal::Worn => "WORN",
+                Refusal::Idle => "IDLE",
+                Refusal::Serial => "SERIAL",
+                Refusal::Early => "EARLY",
+                Refusal::Late => "LATE",
+                Refusal::Book => "BOOK",
+            },
+        )
+    }
+}
+
+/// The run law, as a theorem: for every kind of element, every memory that keeps its rules and every
+/// run of calls, each history that is reached is linearizable and keeps the progress bound.
+pub fn every_run_stands<E>() -> u8
+    ensures { λ _. ⌜ EveryRun E ⌝ }
+{
+    0
 }
