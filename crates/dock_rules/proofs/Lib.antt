@@ -31,3 +31,4 @@ pub mod Falls
 pub mod Progress
 pub mod Opening
 pub mod Theorem
+pub mod Contracts

@@ -54,6 +54,27 @@ module _ {E : Type 0} where
     pub linearizable : Linearizable (st .length) (st .base) h
     pub progress : Progress (st .bays) K h
 
+module _ {E : Type 0} where
+  -- a call at world w that answers a and leaves x: every run that has come to w, handed these trays, goes on so, lawfully
+  abbrev pub GoesOn : ℕ → World E → Call E → Answer → World E → Type 0
+  GoesOn K w c a x =
+      (st : Start) (h : List (Moment E)) (s : State E) → Reached K st h s → s .dock ≡ w .dock → s .memory ≡ w .memory → Handed s (w .trays)
+      → Reached K st (momentOf c a (carried s (w .trays) x) ∷ h) (carried s (w .trays) x)
+      × Lawful K st (momentOf c a (carried s (w .trays) x) ∷ h)
+
+  -- what a run has just after its open
+  abbrev pub opening : World E → ℕ → ℕ → Start
+  opening w n base = record { bays = n; length = lib.ListN.length (w .memory .slots); base = base }
+
+  abbrev pub carrying : World E → State E
+  carrying x = record { dock = x .dock; memory = x .memory; trays = x .trays }
+
+  -- an open at world w that answers a and leaves x: granted, with n trays, it starts a run, lawfully
+  abbrev pub Begins : ℕ → World E → ℕ → ℕ → Answer → World E → Type 0
+  Begins K w n base a x =
+      a ≡ Opened → lib.ListN.length (w .trays) ≡ n
+      → Reached K (opening w n base) [] (carrying x) × Lawful {E = E} K (opening w n base) []
+
 -- every run over every memory that keeps the rules, for every kind of element
 abbrev pub EveryRun : Type 0 → Type 0
 EveryRun E = (K : ℕ) (st : Start) (h : List (Moment E)) (s : State E) → Reached K st h s → Lawful K st h
