@@ -7,7 +7,7 @@
 --
 -- Assumes nothing.
 use mathlib.Core.Path.{_≡_}
-use mathlib.Core.Bool.{Bool, true, false, cond}
+use mathlib.Core.Bool.{cond}
 use mathlib.Core.List.{List, [], _∷_, _++_}
 use Prim.Native.Nat.{ℕ, _+_, _*_, _<_, _≤_}
 use lib.Dec.{eqb}
@@ -16,8 +16,8 @@ use Rattle.std.specs.declared.option.Option.{Option}
 use Rattle.std.specs.declared.option.Option.the-variants.{Some, None}
 use Rattle.dock_rules.specs.declared.Outcome.{Outcome}
 use Rattle.dock_rules.specs.declared.Outcome.the-variants.{Full, Stored, Empty, Taken}
-use Rattle.dock_rules.specs.Words.{Side, Putting, Taking}
-use Rattle.dock_rules.specs.History.{Moment, Request, PutOf, TakeOf, Event, Starts, Goes, Stops, Gives, Quiet, Running, Placed, EndedCall, event, alterations, stored, placed, ended, untouched}
+use Rattle.dock_rules.specs.Words.{Putting, Taking}
+use Rattle.dock_rules.specs.History.{Moment, Request, PutOf, TakeOf, Event, Starts, Goes, Stops, Gives, Quiet, Placed, EndedCall, event, alterations, stored, placed, ended, untouched}
 
 -- it holds of each
 abbrev pub Each : {X : Type 0} → (X → Type 0) → List X → Type 0

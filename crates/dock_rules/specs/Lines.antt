@@ -27,7 +27,7 @@ use Rattle.dock_rules.specs.declared.Line.{Line}
 use Rattle.dock_rules.specs.declared.Line.the-variants.{E5, E6, E9, E10, E12, E13, E15, E16, E17, D5, D6, D9, D10, D12, D13, D15, D16, D17}
 use Rattle.dock_rules.specs.declared.Outcome.{Outcome}
 use Rattle.dock_rules.specs.declared.Outcome.the-variants.{Full, Stored as HasStored, Empty, Taken}
-use Rattle.dock_rules.specs.Words.{Side, isTaking, side, number}
+use Rattle.dock_rules.specs.Words.{isTaking, side, number}
 
 abbrev pub wrap : ℕ → ℕ
 wrap n = n % 2 ^ 32

@@ -2,11 +2,11 @@
 ghost use mathlib.Core.Path.{_≡_};
 ghost use mathlib.Core.Bool.{cond};
 ghost use mathlib.Core.List.{map};
-ghost use Prim.Native.Nat.{ℕ, _<_, _≤_, zero-le};
-ghost use lib.ListN.{length, getD, set, take, replicate};
+ghost use Prim.Native.Nat.{_<_, zero-le};
+ghost use lib.ListN.{length, getD, set};
 ghost use Rattle.std.specs.declared.option.Option.the-variants.{None};
 ghost use Rattle.slot_memory.specs.Meaning.{isOn, unlessOn};
-ghost use Rattle.slot_memory.specs.Rules.{InSlot, Store, Verdict, Keeps};
+ghost use Rattle.slot_memory.specs.Rules.{InSlot, Store, Verdict};
 ghost use Rattle.mark_memory.specs.Exact.{meaningOf, fresh, Accepts};
 use crate::MarkMemory;
 use slot_memory::Bay;

@@ -1,24 +1,21 @@
 -- What the code leaves is what the row memory does, exactly. Assumes nothing.
-use mathlib.Core.Path.{_≡_, refl, sym, ap, _∙_}
-use mathlib.Core.Bool.{Bool, true, false, cond, not, _&&_}
-use mathlib.Core.List.{List, map}
+use mathlib.Core.Path.{_≡_}
+use mathlib.Core.Bool.{Bool, true, false, not, _&&_}
+use mathlib.Core.List.{map}
 use Prim.Native.Nat.{ℕ}
 use native.Mathlib.Omega.{arith}
 use lib.ListN.{getD, set}
 use Rattle.std.proofs.shelf.Lists.{map-set}
-use Rattle.std.specs.declared.option.Option.{Option}
 use Rattle.std.specs.declared.option.Option.the-variants.{Some, None}
 use Rattle.slot_memory.specs.declared.Cell.{Cell}
-use Rattle.slot_memory.specs.declared.Index.{Index}
 use Rattle.slot_memory.specs.declared.Index.the-variants.{Tail, Head}
 use Rattle.slot_memory.specs.declared.Stored.the-variants.{Accepted, Refused}
 use Rattle.slot_memory.specs.Lent.{contents}
-use Rattle.slot_memory.specs.Meaning.{known, live, isOn}
-use Rattle.slot_memory.specs.Rules.{Write, InSlot, InIndex, Mark, Store, Reply, Verdict, target, reading, written}
-use Rattle.row_memory.specs.declared.RowMark.{RowMark}
+use Rattle.slot_memory.specs.Meaning.{known, isOn}
+use Rattle.slot_memory.specs.Rules.{Write, InSlot, InIndex, Mark, Store, Reply, Verdict, target, reading}
 use Rattle.row_memory.specs.declared.RowMemory.{RowMemory}
-use Rattle.row_memory.specs.Row.{sound, struck, cellOf, isSpoilt, spoiltIn}
-use Rattle.row_memory.specs.Exact.{meaningOf, marksAfter, chosen, balks, Balks}
+use Rattle.row_memory.specs.Row.{sound, struck, cellOf, isSpoilt}
+use Rattle.row_memory.specs.Exact.{meaningOf, Balks}
 use Rattle.row_memory.proofs.Spoilt.{struck-cells, marked-cell}
 
 module _ {E : Type 0} where

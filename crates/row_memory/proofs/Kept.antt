@@ -12,15 +12,14 @@ use Rattle.std.specs.declared.option.Option.the-variants.{Some, None}
 use Rattle.slot_memory.specs.declared.Cell.{Cell}
 use Rattle.std.specs.Orderings.{When}
 use Rattle.std.proofs.shelf.Tests.{ltb-true, and-parts}
-use Rattle.slot_memory.specs.Meaning.{Meaning, known, live, isOn}
-use Rattle.slot_memory.specs.Rules.{Operation, Clear, Read, Mark, Store, Reply, Free, target, touched, May, MayStore, Keeps}
+use Rattle.slot_memory.specs.Meaning.{known, live, isOn}
+use Rattle.slot_memory.specs.Rules.{Operation, Clear, Read, Mark, Store, Reply, target, May, MayStore, Keeps}
 use Rattle.slot_memory.proofs.Kept.{keeps-from}
 use Rattle.row_memory.specs.declared.RowMark.{RowMark}
 use Rattle.row_memory.specs.declared.RowMemory.{RowMemory}
 use Rattle.row_memory.specs.Row.{sound, struck, cellOf, isSpoilt, spoiltIn}
-use Rattle.row_memory.specs.Exact.{meaningOf, marksAfter, chosen, balks, Balks}
-use Rattle.row_memory.proofs.Spoilt.{worth, spoilt-set, spoilt-less, struck-cells, marked-cell, getD-struck, struck-own}
-use Rattle.std.proofs.shelf.Ways.{tells}
+use Rattle.row_memory.specs.Exact.{meaningOf, chosen, balks, Balks}
+use Rattle.row_memory.proofs.Spoilt.{worth, spoilt-set, spoilt-less, marked-cell, getD-struck, struck-own}
 
 abbrev counted : Bool → ℕ
 counted t = cond t 1 0

@@ -1,17 +1,17 @@
 -- How many marks are spoilt, and which cells are marked, as marks are set and struck. Assumes nothing.
-use mathlib.Core.Path.{_≡_, refl, sym, ap, _∙_}
-use mathlib.Core.Bool.{Bool, true, false, cond}
+use mathlib.Core.Path.{_≡_, refl, ap}
+use mathlib.Core.Bool.{true, false, cond}
 use mathlib.Core.List.{List, [], _∷_, map}
 use Prim.Native.Nat.{ℕ, zero, suc, _+_, _<_, _≤_}
 use native.Mathlib.Nat.{le-of-suc-le-suc, not-suc-le-zero}
 use native.Mathlib.Omega.{arith}
 use lib.ListN.{length, getD, set}
 use Rattle.std.specs.declared.option.Option.{Option}
-use Rattle.std.specs.declared.option.Option.the-variants.{Some, None}
+use Rattle.std.specs.declared.option.Option.the-variants.{None}
 use Rattle.slot_memory.specs.declared.Cell.{Cell}
-use Rattle.slot_memory.specs.Meaning.{sameCell, isOn, unlessOn}
+use Rattle.slot_memory.specs.Meaning.{isOn, unlessOn}
 use Rattle.row_memory.specs.declared.RowMark.{RowMark}
-use Rattle.row_memory.specs.Row.{sameRow, struck, cellOf, isSpoilt, spoiltIn}
+use Rattle.row_memory.specs.Row.{struck, cellOf, isSpoilt, spoiltIn}
 
 -- 1 for a spoilt mark, else 0
 abbrev pub worth : Option RowMark → ℕ

@@ -2,9 +2,9 @@
 ghost use mathlib.Core.Path.{_≡_};
 ghost use mathlib.Core.Bool.{cond, not, _&&_};
 ghost use mathlib.Core.List.{map};
-ghost use Prim.Native.Nat.{_<_, _≤_};
+ghost use Prim.Native.Nat.{_<_};
 ghost use lib.Dec.{lit≤};
-ghost use lib.ListN.{length, getD, set, replicate};
+ghost use lib.ListN.{length, getD, set};
 ghost use Rattle.std.specs.declared.option.Option.the-variants.{None};
 ghost use Rattle.slot_memory.specs.Meaning.{isOn};
 ghost use Rattle.slot_memory.specs.Rules.{InSlot, Store, Verdict, Keeps};

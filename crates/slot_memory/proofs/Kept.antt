@@ -1,10 +1,9 @@
 -- Whoever does what `touched` says, at free results that may be, keeps the rules. Assumes nothing.
 use mathlib.Core.Path.{_≡_, refl, sym, subst}
-use mathlib.Core.Bool.{Bool, true, false, cond}
 use Prim.Native.Nat.{ℕ}
 use native.Mathlib.Omega.{arith}
-use Rattle.slot_memory.specs.Meaning.{Meaning, known, live}
-use Rattle.slot_memory.specs.Rules.{Operation, Clear, Read, Mark, Store, Reply, Free, target, touched, May, Keeps}
+use Rattle.slot_memory.specs.Meaning.{Meaning}
+use Rattle.slot_memory.specs.Rules.{Operation, Clear, Read, Mark, Store, Reply, Free, touched, May, Keeps}
 
 module _ {E : Type 0} where
   keeps-touched : (K : ℕ) (m : Meaning E) (o : Operation E) (f : Free) → May K m o f → Keeps K m o (touched m o f .0) (touched m o f .1)

@@ -5,7 +5,7 @@ ghost use Prim.Native.Nat.{ℕ, _≤_};
 ghost use lib.ListN.{length};
 ghost use Rattle.std.specs.declared.option.Option.the-variants.{Some, None};
 ghost use Rattle.slot_memory.specs.Meaning.{Meaning, mostSpare, sameCell};
-ghost use Rattle.slot_memory.specs.Rules.{Write, InSlot, InIndex, Operation, Clear, Read, Mark, Store, Reply, Done, Number, Content, Verdict, Keeps};
+ghost use Rattle.slot_memory.specs.Rules.{InSlot, InIndex, Operation, Clear, Read, Mark, Store, Reply, Done, Number, Content, Verdict, Keeps};
 ghost use Rattle.slot_memory.specs.declared.Cell.the-variants.{Slot, At};
 
 mod lent;

@@ -1,7 +1,5 @@
-use mathlib.Core.Path.{ap, _∙_}
-use mathlib.Core.List.{map, append-nil}
-use native.Mathlib.Omega.{arith}
-use lib.ListN.{set}
+use mathlib.Core.Path.{_∙_}
+use mathlib.Core.List.{append-nil}
 use Rattle.std.proofs.shelf.Lists.{take-all, drop-all}
 use Rattle.std.proofs.shelf.Edits.{map-over-more}
 use borrow.Author.Needs.{needs}

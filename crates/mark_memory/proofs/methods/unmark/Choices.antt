@@ -1,6 +1,5 @@
 use mathlib.Core.Path.{_≡_}
 use mathlib.Core.List.{map, _++_}
-use Prim.Native.Nat.{_≤_}
 use lib.ListN.{length, take, drop}
 use Rattle.slot_memory.specs.Meaning.{unlessOn}
 use Rattle.mark_memory.proofs.methods.unmark.Given as given

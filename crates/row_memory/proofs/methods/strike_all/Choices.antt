@@ -1,6 +1,5 @@
 use mathlib.Core.Path.{_≡_}
 use mathlib.Core.List.{map, _++_}
-use Prim.Native.Nat.{_≤_}
 use lib.ListN.{length, take, drop}
 use Rattle.row_memory.specs.Row.{struck}
 use Rattle.row_memory.proofs.methods.strike_all.Given as given
