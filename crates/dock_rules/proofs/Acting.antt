@@ -2,41 +2,36 @@
 use mathlib.Core.Path.{_≡_, refl, sym, ap, subst, _∙_}
 use mathlib.Core.Bool.{Bool, true, false, cond, _&&_}
 use mathlib.Core.List.{List, [], _∷_}
-use Prim.Native.Nat.{ℕ, suc, _+_, _^_, _<_, _≤_}
+use Prim.Native.Nat.{ℕ, suc, _+_, _<_, _≤_}
 use native.Mathlib.Omega.{arith}
 use lib.Dec.{eqb, ltb}
 use lib.ListN.{length}
 use Rattle.std.specs.Finite.{nth}
 use Rattle.std.specs.declared.option.Option.{Option}
-use Rattle.std.specs.declared.option.Option.the-variants.{Some, None}
-use Rattle.std.proofs.shelf.Tests.{cond-true, cond-false, eq-eqb, and-right}
+use Rattle.std.specs.declared.option.Option.the-variants.{Some}
+use Rattle.std.proofs.shelf.Tests.{cond-false, and-right}
 use Rattle.slot_memory.specs.declared.Cell.{Cell}
 use Rattle.slot_memory.specs.Meaning.{Meaning, mark}
 use Rattle.dock_rules.specs.declared.Attempt.{Attempt}
-use Rattle.dock_rules.specs.declared.BayRecord.{BayRecord}
 use Rattle.dock_rules.specs.declared.BayRecord.the-variants.{UnderWay}
-use Rattle.dock_rules.specs.declared.Line.{Line}
-use Rattle.dock_rules.specs.Words.{Side, Putting, Taking, side, number}
+use Rattle.dock_rules.specs.Words.{Side, side, number}
 use Rattle.dock_rules.specs.Lines.{wrap}
 use Rattle.dock_rules.specs.Calls.{Step, Stands as StandsAt, recordOf}
-use Rattle.dock_rules.specs.History.{Moment, Running, Goes, goesTo, when, isStore, sameSide, storedBy, alterations, running}
-use Rattle.dock_rules.specs.Law.{Each}
+use Rattle.dock_rules.specs.History.{Moment, Running, Goes, when, isStore, sameSide, storedBy, alterations, running}
 use Rattle.dock_rules.specs.Runs.{Start, State, momentOf}
-use Rattle.dock_rules.proofs.Stages.{Stage, S5, S6, S9, S10, S12, S13, S15, S16, S17, stage, lineAt, numberAt, side-at, stage-at, number-is}
-use Rattle.dock_rules.proofs.Knows.{View, count, pos, lim, Stands}
-use Rattle.dock_rules.proofs.Invariant.{Noted, early, earlyBy, sideOf, TrayOf, Stood, Knows, viewOf, Inv}
+use Rattle.dock_rules.proofs.Stages.{earlyAt, Stage, stage, lineAt, numberAt, side-at, stage-at, number-is}
+use Rattle.dock_rules.proofs.Knows.{View, Stands}
+use Rattle.dock_rules.proofs.Invariant.{Noted, early, earlyBy, TrayOf, Stood, Knows, viewOf, Inv}
 use Rattle.dock_rules.proofs.Bays.{goes-own}
 use Rattle.dock_rules.proofs.Moves.{acted, moved}
 use Rattle.dock_rules.proofs.Calm.{Unshared, calm-move}
 
--- 1 at a line before the slot store has been accepted
-abbrev pub earlyAt : Stage → ℕ
-earlyAt g = cond (ltb (numberAt g) 16) 1 0
-
+-- the line of a side and a stage has the stage's number
 pub number-at : (d : Side) (g : Stage) → number (lineAt d g) ≡ numberAt g
 number-at d g = number-is (lineAt d g) ∙ ap numberAt (stage-at d g)
 
 module _ {E : Type 0} {K : ℕ} {st : Start} {h : List (Moment E)} {s : State E} (i : Inv K st h s) (b : ℕ) (inside : b < st .bays) (r : Running E) (a : Attempt) (runs : running (st .base) h b ≡ Some r) (is : recordOf (s .dock) b ≡ UnderWay a) where
+  -- what the invariant says of the call under way in bay b
   pub stood : Stood (st .length) (st .base) (viewOf st h s) (length h) r a (mark (s .memory) b) (nth (s .trays) b)
   stood =
       subst (λ x. Knows (st .length) (st .base) (viewOf st h s) (length h) (Some r) x (mark (s .memory) b) (nth (s .trays) b)) is
@@ -46,9 +41,11 @@ module _ {E : Type 0} {K : ℕ} {st : Start} {h : List (Moment E)} {s : State E}
   abbrev pub arrived : Stage → ℕ → Running E
   arrived g x = record { serial = r .serial; since = r .since; request = r .request; line = lineAt (side (a .line)) g; read = x }
 
+  -- the bay's own note of the call, arrived there
   abbrev pub attemptAt : Stage → ℕ → Bool → Attempt
   attemptAt g x held = record { serial = a .serial; line = lineAt (side (a .line)) g; index = x; held = held }
 
+  -- the history and the bay's record agree on the call's line
   pub number-of : number (r .line) ≡ numberAt (stage (a .line))
   number-of = ap number (stood .line) ∙ number-is (a .line)
 
@@ -59,6 +56,7 @@ module _ {E : Type 0} {K : ℕ} {st : Start} {h : List (Moment E)} {s : State E}
       ap (when (isStore d l)) runs
       ∙ cond-false (isStore d l r) (r ∷ []) [] (and-right (sameSide (side (r .line)) d) _ ((λ j. eqb (number-of j) 15 && eqb (number-at (side (a .line)) g j) 16) ∙ e))
 
+  -- a call that does not go back before its slot store weighs no more, by its serial
   pub lighter-at : (g : Stage) (x : ℕ) (held : Bool) → earlyAt g ≤ earlyAt (stage (a .line)) → (y : ℕ) → earlyBy y (UnderWay (attemptAt g x held)) ≤ earlyBy y (recordOf (s .dock) b)
   lighter-at g x held le y =
       subst (λ z. earlyBy y (UnderWay (attemptAt g x held)) ≤ earlyBy y z) (sym is)
@@ -69,6 +67,7 @@ module _ {E : Type 0} {K : ℕ} {st : Start} {h : List (Moment E)} {s : State E}
       both true = le
       both false = omega arith
 
+  -- nor does it take more room
   pub roomier-at : (g : Stage) (x : ℕ) (held : Bool) → earlyAt g ≤ earlyAt (stage (a .line)) → early (UnderWay (attemptAt g x held)) ≤ early (recordOf (s .dock) b)
   roomier-at g x held le =
       subst (λ z. early (UnderWay (attemptAt g x held)) ≤ early z) (sym is)
@@ -90,6 +89,7 @@ module _ {E : Type 0} {K : ℕ} {st : Start} {h : List (Moment E)} {s : State E}
             (subst (λ y. Stands (st .length) (st .base) v (side (a .line)) y (arrived g c) held mk tr) (sym (stage-at (side (a .line)) g)) stands);
       }
 
+  -- the call that runs in bay b after it goes to that stage
   pub runs-to : (g : Stage) (c : ℕ) → cond (eqb (number (r .line)) 5) (alterations (st .base) h (side (r .line))) (r .read) ≡ c → running (st .base) (momentOf (Step b) (StandsAt (lineAt (side (a .line)) g)) s ∷ h) b ≡ Some (arrived g c)
   runs-to g c e =
       goes-own b (suc (length h)) (alterations (st .base) h) (running (st .base) h) (lineAt (side (a .line)) g) r runs

@@ -1,30 +1,26 @@
 -- Calls that change nothing of what the bays share. Assumes nothing.
 use mathlib.Core.Path.{_≡_, refl, sym, ap, subst, _∙_}
-use mathlib.Core.Bool.{Bool, true, false, cond, _&&_}
 use mathlib.Core.List.{List, [], _∷_}
-use mathlib.Core.Logic.{_⊎_, inl, inr}
 use Prim.Native.Nat.{ℕ, suc, _+_, _<_, _≤_}
 use native.Mathlib.Omega.{arith}
-use lib.ListN.{length, set, length-set}
+use lib.ListN.{length, length-set}
 use Rattle.std.specs.Finite.{nth}
 use Rattle.std.specs.declared.option.Option.{Option}
-use Rattle.std.specs.declared.option.Option.the-variants.{Some, None}
+use Rattle.std.specs.declared.option.Option.the-variants.{None}
 use Rattle.slot_memory.specs.declared.Cell.{Cell}
-use Rattle.slot_memory.specs.declared.Index.the-variants.{Tail, Head}
-use Rattle.slot_memory.specs.Meaning.{Meaning, index, mark}
+use Rattle.slot_memory.specs.Meaning.{Meaning, mark}
 use Rattle.slot_memory.specs.Rules.{marked}
 use Rattle.dock_rules.specs.declared.BayRecord.{BayRecord}
 use Rattle.dock_rules.specs.Words.{Side, Putting, Taking}
 use Rattle.dock_rules.specs.Calls.{Call, Answer, recordOf}
-use Rattle.dock_rules.specs.History.{Moment, Running, eventOf, endedBy, untouchedBy, turnedBy, storedBy, indexIn, altered, alterations, running, stored}
+use Rattle.dock_rules.specs.History.{Moment, Running, eventOf, endedBy, untouchedBy, turnedBy, storedBy, alterations, running}
 use Rattle.dock_rules.specs.Law.{Each, places}
 use Rattle.dock_rules.specs.Runs.{Start, State, momentOf}
-use Rattle.dock_rules.proofs.Sound.{own}
-use Rattle.dock_rules.proofs.Knows.{View, Change, Ready, Kept}
+use Rattle.dock_rules.proofs.Knows.{View, Change}
 use Rattle.dock_rules.proofs.Invariant.{early, earlyBy, Knows, viewOf, words, Inv}
 use Rattle.dock_rules.proofs.Bays.{About, marked-other}
-use Rattle.dock_rules.proofs.Moments.{Happens, same-index, calm-view}
-use Rattle.dock_rules.proofs.Finish.{each-map, Answered, Places, noMore}
+use Rattle.dock_rules.proofs.Moments.{unaltered, calm-view}
+use Rattle.dock_rules.proofs.Finish.{each-map, Answered, noMore}
 use Rattle.dock_rules.proofs.Moves.{acted, Move}
 
 -- nothing changes
@@ -50,26 +46,22 @@ module _ {E : Type 0} (K : ℕ) (st : Start) (h : List (Moment E)) (s : State E)
     pub spare : mem .spare ≤ K
     pub others : (o : ℕ) → (o ≡ b → ⊥) → mark mem o ≡ mark (s .memory) o
 
+  -- the memory itself
   pub unchanged : s .memory .spare ≤ K → Unshared (s .memory)
   unchanged low = record { slots = refl; tail = refl; head = refl; marks = refl; spare = low; others = λ o n. refl }
 
+  -- the memory with bay b's mark set or cleared
   pub remarked : (k : Option Cell) (spare : ℕ) → spare ≤ K → Unshared (marked (s .memory) b k spare)
   remarked k spare low =
       record { slots = refl; tail = refl; head = refl; marks = length-set (s .memory .marks) b k; spare = low; others = λ o n. marked-other (s .memory) b o k spare n }
 
+  -- a call about bay b that leaves what the bays share: the view stays, so only bay b's part is to show
   pub calm-move : (c : Call E) (an : Answer) (rec : BayRecord) (mem : Meaning E) (trs : List E) (R : Option (Running E)) → Inv K st h s → b < st .bays → Unshared mem → About b (suc (length h)) (alterations (st .base) h) (running (st .base) h) (eventOf c an) → running (st .base) (momentOf c an (acted K st h s b rec mem trs) ∷ h) b ≡ R → length trs ≡ length (s .trays) → ((o : ℕ) → (o ≡ b → ⊥) → nth trs o ≡ nth (s .trays) o) → Knows (st .length) (st .base) (viewOf st h s) (suc (length h)) R rec (mark mem b) (nth trs b) → ((x : ℕ) → earlyBy x rec ≤ earlyBy x (recordOf (s .dock) b)) → early rec ≤ early (recordOf (s .dock) b) → ((d : Side) → storedBy d (eventOf c an) (running (st .base) h) ≡ []) → turnedBy (eventOf c an) (running (st .base) h) ≡ [] → Each (Answered (st .length) (viewOf st h s .ps)) (endedBy (eventOf c an) (suc (length h)) trs (running (st .base) h)) → Each (λ r. (r .serial ≤ s .dock .started) × (earlyBy (r .serial) rec + 1 ≤ earlyBy (r .serial) (recordOf (s .dock) b)) × (places (r .serial) (viewOf st h s .ps) ≡ [])) (untouchedBy (eventOf c an) (running (st .base) h)) → Move K st h s b c an rec mem trs (viewOf st h s) None R
   calm-move c an rec mem trs R i inside un about run long others here lighter roomier none turned answered left =
       let t = acted K st h s b rec mem trs in
       let m = momentOf c an t in
       let v = viewOf st h s in
-      let happens : Happens st m h false false [] [] [] = record {
-        tail = same-index st m h Putting (un .tail ∙ i .indices Putting);
-        head = same-index st m h Taking (un .head ∙ i .indices Taking);
-        puts = none Putting;
-        takes = none Taking;
-        turned = turned;
-      }
-      in
+      let happens = unaltered st m h (un .tail ∙ i .indices Putting) (un .head ∙ i .indices Taking) (none Putting) (none Taking) turned in
       record {
         inside = inside;
         about = about;

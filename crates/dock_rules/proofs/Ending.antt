@@ -2,8 +2,8 @@
 use mathlib.Core.Path.{_≡_, refl, sym, ap, subst, _∙_}
 use mathlib.Core.Bool.{Bool, true, false, cond, _&&_}
 use mathlib.Core.List.{List, [], _∷_, map}
-use mathlib.Core.Logic.{_⊎_, inl, inr}
-use Prim.Native.Nat.{ℕ, suc, _+_, _<_, _≤_}
+use mathlib.Core.Logic.{inl, inr}
+use Prim.Native.Nat.{ℕ, suc, _<_, _≤_}
 use native.Mathlib.Omega.{arith}
 use lib.Dec.{eqb, ltb}
 use lib.ListN.{length}
@@ -11,31 +11,30 @@ use Rattle.std.specs.Finite.{nth}
 use Rattle.std.specs.declared.option.Option.{Option}
 use Rattle.std.specs.declared.option.Option.the-variants.{Some, None}
 use Rattle.std.proofs.shelf.Lists.{nil-from-length}
-use Rattle.slot_memory.specs.declared.Cell.the-variants.{At}
-use Rattle.slot_memory.specs.Meaning.{Meaning, index, mark}
+use Rattle.slot_memory.specs.Meaning.{Meaning, index}
 use Rattle.dock_rules.specs.declared.Attempt.{Attempt}
 use Rattle.dock_rules.specs.declared.BayRecord.the-variants.{UnderWay, Ended}
 use Rattle.dock_rules.specs.declared.Outcome.{Outcome}
 use Rattle.dock_rules.specs.declared.Outcome.the-variants.{Full, Stored, Empty, Taken}
 use Rattle.dock_rules.specs.Words.{Side, Putting, Taking, side, number}
 use Rattle.dock_rules.specs.Calls.{Step, End, recordOf}
-use Rattle.dock_rules.specs.History.{Moment, Request, PutOf, TakeOf, Running, Placed, EndedCall, place, ends, elementOf, Stops, when, isTurned, sameSide, turnedBy, endedBy, alterations, running}
+use Rattle.dock_rules.specs.History.{Moment, TakeOf, Running, Placed, place, ends, elementOf, Stops, when, isTurned, sameSide, turnedBy, endedBy, alterations, running}
 use Rattle.dock_rules.specs.Law.{Each, plain, queue, gives, places}
 use Rattle.dock_rules.specs.Runs.{Start, State, momentOf}
 use Rattle.dock_rules.proofs.Sound.{own}
-use Rattle.dock_rules.proofs.Stages.{Stage, S6, S16, S17, stage, numberAt, number-is, turnedAway, carriedOut}
+use Rattle.dock_rules.proofs.Stages.{S6, stage, numberAt, number-is, turnedAway, carriedOut}
 use Rattle.dock_rules.proofs.Shared.{Shared}
-use Rattle.dock_rules.proofs.Knows.{View, count, wait, lim, queueOf, pos, answer, Waits, Counted, Kept}
+use Rattle.dock_rules.proofs.Knows.{View, count, wait, lim, queueOf, pos, answer, Counted, Kept}
 use Rattle.dock_rules.proofs.Placing.{plain-full, places-self, gives-self}
-use Rattle.dock_rules.proofs.Changes.{Sharing, moving, turning, turn-change}
-use Rattle.dock_rules.proofs.Invariant.{early, earlyBy, sideOf, viewOf, hits, words, weight, extent, Inv}
+use Rattle.dock_rules.proofs.Changes.{moving, turning, turn-change}
+use Rattle.dock_rules.proofs.Invariant.{earlyBy, sideOf, viewOf, weight, Inv}
 use Rattle.dock_rules.proofs.Bays.{stops-own}
-use Rattle.dock_rules.proofs.Moments.{Happens, same-index, turned-view}
-use Rattle.dock_rules.proofs.Finish.{each-map, Answered, Places, oneMore}
-use Rattle.dock_rules.proofs.Moves.{acted, Move, moved}
+use Rattle.dock_rules.proofs.Moments.{unaltered, turned-view}
+use Rattle.dock_rules.proofs.Finish.{each-map, Answered, oneMore}
+use Rattle.dock_rules.proofs.Moves.{acted, moved}
 use Rattle.dock_rules.proofs.Calm.{Unshared, calm-move}
-use Rattle.dock_rules.proofs.Weights.{placed-words, early-weighs, early-own}
-use Rattle.dock_rules.proofs.Moving.{asked-put, asked-take, bumped, moving-change, moving-move}
+use Rattle.dock_rules.proofs.Weights.{placed-words, early-weighs}
+use Rattle.dock_rules.proofs.Moving.{asked-put, asked-take, bumped, moving-change, moving-ps, moving-move}
 use Rattle.dock_rules.proofs.Acting.{stood, number-of}
 
 module _ {E : Type 0} (L base now : ℕ) where
@@ -48,6 +47,7 @@ module _ {E : Type 0} (L base now : ℕ) where
       go true rest e = let same : p .moment ≡ k = cc in omega (arith, all .0)
       go false rest e = rest e
 
+  -- a call carried out ends with the answer that it counts on
   counted-answer : (d : Side) (tr : Option E) → answer d tr ≡ (carriedOut d, elementOf (carriedOut d) tr)
   counted-answer Putting tr = refl
   counted-answer Taking tr = refl
@@ -70,9 +70,11 @@ module _ {E : Type 0} {K : ℕ} {st : Start} {h : List (Moment E)} {s : State E}
   abbrev tr : Option E
   tr = nth (s .trays) b
 
+  -- no call runs in bay b after the end
   stops-run : (o : Outcome) (t : State E) → running (st .base) (momentOf (Step b) (End o) t ∷ h) b ≡ None
   stops-run o t = stops-own b now (alterations (st .base) h) (running (st .base) h) o
 
+  -- no place is later than this moment
   past-now : Each (λ p. p .moment ≤ now) (v .ps)
   past-now = each-map _ _ (v .ps) (λ p k. omega arith) (i .past)
 
@@ -80,6 +82,7 @@ module _ {E : Type 0} {K : ℕ} {st : Start} {h : List (Moment E)} {s : State E}
   told-end : (ps : List (Placed E)) (o : Outcome) → Answered (st .length) ps (ends now o tr r) → Each (Answered (st .length) ps) (endedBy (Stops b o) now (s .trays) (running (st .base) h))
   told-end ps o k = subst (λ x. Each (Answered (st .length) ps) (map (ends now o tr) (when (λ _. true) x))) (sym runs) (k, tt)
 
+  -- a call carried out is not turned away
   not-turned : (o : Side) → turnedBy (Stops b (carriedOut o)) (running (st .base) h) ≡ []
   not-turned Putting = ap (when (isTurned Stored)) runs
   not-turned Taking = ap (when (isTurned Taken)) runs
@@ -96,17 +99,15 @@ module _ {E : Type 0} {K : ℕ} {st : Start} {h : List (Moment E)} {s : State E}
       (told-end (v .ps) o (answered-of (st .length) (st .base) now v d r tr past-now k))
       tt)
 
+  -- no call waits on a side whose index has just moved
   no-wait : (o : Side) (w : Running E) → wait (moving (st .length) (st .base) now o v w) o ≡ []
   no-wait Putting w = refl
   no-wait Taking w = refl
 
+  -- the new place is no later than this moment either
   past-moving : (o : Side) (w : Running E) → Each (λ p. p .moment ≤ now) (moving (st .length) (st .base) now o v w .ps)
   past-moving Putting w = (omega arith, past-now)
   past-moving Taking w = (omega arith, past-now)
-
-  moving-ps : (o : Side) (w : Running E) → moving (st .length) (st .base) now o v w .ps ≡ place now w ∷ v .ps
-  moving-ps Putting w = refl
-  moving-ps Taking w = refl
 
   -- line 17 moves the index itself
   pub ends-moving : (w : Running E) (x spare : ℕ) → spare ≤ K → x ≡ index (s .memory) (own d) → wait v d ≡ w ∷ [] → Kept (st .length) (st .base) v d r tr → Inv K st (momentOf (Step b) (End (carriedOut d)) (acted K st h s b (Ended (a .serial) (carriedOut d)) (bumped i d x spare) (s .trays)) ∷ h) (acted K st h s b (Ended (a .serial) (carriedOut d)) (bumped i d x spare) (s .trays))
@@ -121,7 +122,7 @@ module _ {E : Type 0} {K : ℕ} {st : Start} {h : List (Moment E)} {s : State E}
       (λ c. refl)
       (not-turned d)
       refl
-      (told-end (place now w ∷ v .ps) o (subst (λ ps. Answered (st .length) ps (ends now o tr r)) (moving-ps d w) (answered-of (st .length) (st .base) now u d r tr (past-moving d w) counted))))
+      (told-end (place now w ∷ v .ps) o (subst (λ ps. Answered (st .length) ps (ends now o tr r)) (moving-ps i d w) (answered-of (st .length) (st .base) now u d r tr (past-moving d w) counted))))
     where
       go : Kept (st .length) (st .base) (moving (st .length) (st .base) now d v w) d r tr → Counted (st .length) (st .base) (moving (st .length) (st .base) now d v w) d r tr
       go = elim [
@@ -149,6 +150,7 @@ module _ {E : Type 0} {K : ℕ} {st : Start} {h : List (Moment E)} {s : State E}
       let at = number-of i b inside r a runs is ∙ ap numberAt at6 in
       ap (when (isTurned Empty)) runs ∙ λ j. cond (sameSide (same j) Taking && eqb (at j) 6) (r ∷ []) []
 
+  -- a call turned away ends with no element
   no-element : (o : Side) → elementOf (turnedAway o) tr ≡ None
   no-element Putting = refl
   no-element Taking = refl
@@ -168,14 +170,7 @@ module _ {E : Type 0} {K : ℕ} {st : Start} {h : List (Moment E)} {s : State E}
       let weighs = subst (λ x. 0 < weight (st .bays) v s x) (sym (k .serial)) (mine .1) in
       let plain-is = turns-plain d (k .asks) le at in
       let same : queue (st .length) (place now r ∷ v .ps) ≡ queue (st .length) (v .ps) = ap (λ x. x .1) plain-is in
-      let happens : Happens st m h false false [] [] (r ∷ []) = record {
-        tail = same-index st m h Putting (i .indices Putting);
-        head = same-index st m h Taking (i .indices Taking);
-        puts = refl;
-        takes = refl;
-        turned = told-turned at6 d (ap side (k .line));
-      }
-      in
+      let happens = unaltered st m h (i .indices Putting) (i .indices Taking) refl refl (told-turned at6 d (ap side (k .line))) in
       moved K st h s b i (record {
         inside = inside;
         about = refl;

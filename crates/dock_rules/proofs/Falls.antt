@@ -31,8 +31,8 @@ use Rattle.dock_rules.specs.History.{Moment, Running, Event, Goes, event, step
 use Rattle.dock_rules.specs.Law.{isStep, isEnd}
 use Rattle.dock_rules.specs.Runs.{Start, State}
 use Rattle.dock_rules.proofs.Sound.{own, Tied, Sound}
-use Rattle.dock_rules.proofs.Stages.{Stage, S5, S6, S9, S10, S12, S13, S15, S16, S17, numberAt, lineAt, stage, side-at, stage-at, number-is, operation-is, next-is, operationAt, nextAt, outrun, leftIn}
-use Rattle.dock_rules.proofs.Rank.{beforeAt, rankOf, waits, waits-rise, waits-fall, potential, marked-same, falls-by-rank, falls-by-budget}
+use Rattle.dock_rules.proofs.Stages.{earlyAt, Stage, S5, S6, S9, S10, S12, S13, S15, S16, S17, numberAt, lineAt, stage, side-at, stage-at, number-is, operation-is, next-is, operationAt, nextAt, outrun, leftIn}
+use Rattle.dock_rules.proofs.Rank.{rankOf, waits, waits-rise, waits-fall, potential, marked-same, falls-by-rank, falls-by-budget}
 
 -- an index holds what was written in it
 index-written : {E : Type 0} (m : Meaning E) (i : Index) (v sp : ℕ) → index (written m (InIndex i v) sp) i ≡ v
@@ -45,7 +45,7 @@ spare-pays true sp spare rise l less = omega arith
 spare-pays false sp spare rise l less = omega arith
 
 -- a call that stays before its slot store, or past it, makes none
-none-made : (g next : Stage) → beforeAt next ≡ beforeAt g → (eqb (numberAt g) 15 && eqb (numberAt next) 16) ≡ false
+none-made : (g next : Stage) → earlyAt next ≡ earlyAt g → (eqb (numberAt g) 15 && eqb (numberAt next) 16) ≡ false
 none-made g next same = grind arith
 
 module _ {E : Type 0} (K : ℕ) (m : Meaning E) (b : ℕ) (f : Free) (G : Reply E × Meaning E → Type 0) where
@@ -93,7 +93,7 @@ module _ {E : Type 0} (K : ℕ) (st : Start) (h : List (Moment E)) (s : State E)
     pub lowers : Lowers K st h s (stepping b (answerOf n)) (set (s .dock .records) b (recordAfter (a .serial) n)) m
 
   -- a step tells of no slot store, unless the call passes from before it to past it
-  none-stored : (x : Moment E) (next : Stage) → event x ≡ Goes b (lineAt mine next) → beforeAt next ≡ beforeAt (stage (a .line)) → (d : Side) → stored (st .base) x h d ≡ []
+  none-stored : (x : Moment E) (next : Stage) → event x ≡ Goes b (lineAt mine next) → earlyAt next ≡ earlyAt (stage (a .line)) → (d : Side) → stored (st .base) x h d ≡ []
   none-stored x next e same d = rw e (go (running (st .base) h b) (rw is at (sound .tied b here)))
     where
       go : (o : Option (Running E)) → Tied o (UnderWay a) → when (isStore d (lineAt mine next)) o ≡ []
@@ -101,7 +101,7 @@ module _ {E : Type 0} (K : ℕ) (st : Start) (h : List (Moment E)) (s : State E)
       go (Some r) t = cond-false _ (r ∷ []) [] (and-right (sameSide (side (r .line)) d) _ (simp (t .1, number-is, stage-at) (none-made (stage (a .line)) next same)))
 
   -- to another stage on the same side of the slot store, with a new mark and a new spare
-  onward : (g next : Stage) (i : ℕ) (held : Bool) (k : Option Cell) (sp : ℕ) → stage (a .line) ≡ g → beforeAt next ≡ beforeAt g → 1 + (6 * sp + rankOf now k mine next i held) ≤ 6 * now .spare + rankOf now (mark now b) mine g (a .index) (a .held) → Turn (To (lineAt mine next) i held) (marked now b k sp)
+  onward : (g next : Stage) (i : ℕ) (held : Bool) (k : Option Cell) (sp : ℕ) → stage (a .line) ≡ g → earlyAt next ≡ earlyAt g → 1 + (6 * sp + rankOf now k mine next i held) ≤ 6 * now .spare + rankOf now (mark now b) mine g (a .index) (a .held) → Turn (To (lineAt mine next) i held) (marked now b k sp)
   onward g next i held k sp stood same less =
       record {
         lowers = λ x e _ _ _.
@@ -114,7 +114,7 @@ module _ {E : Type 0} (K : ℕ) (st : Start) (h : List (Moment E)) (s : State E)
       }
 
   -- to another stage, over the memory as it is
-  reads-on : (g next : Stage) (i : ℕ) (held : Bool) → stage (a .line) ≡ g → beforeAt next ≡ beforeAt g → rankOf now (mark now b) mine next i held < rankOf now (mark now b) mine g (a .index) (a .held) → Turn (To (lineAt mine next) i held) now
+  reads-on : (g next : Stage) (i : ℕ) (held : Bool) → stage (a .line) ≡ g → earlyAt next ≡ earlyAt g → rankOf now (mark now b) mine next i held < rankOf now (mark now b) mine g (a .index) (a .held) → Turn (To (lineAt mine next) i held) now
   reads-on g next i held stood same less =
       subst (Turn (To (lineAt mine next) i held)) (marked-same now b) (onward g next i held (mark now b) (now .spare) stood same (omega arith))
 
@@ -128,7 +128,7 @@ module _ {E : Type 0} (K : ℕ) (st : Start) (h : List (Moment E)) (s : State E)
   branch false p q = q refl
 
   -- by an accepted store that lowers the budget
-  spends : (g next : Stage) (m : Meaning E) → stage (a .line) ≡ g → ((x : Moment E) → event x ≡ Goes b (lineAt mine next) → ((d : Side) → index m (own d) ≡ indexIn (st .base) (x ∷ h) d) → 2 * beforeAt next + waits (st .base) (x ∷ h) < 2 * beforeAt g + waits (st .base) h) → Turn (To (lineAt mine next) (a .index) (a .held)) m
+  spends : (g next : Stage) (m : Meaning E) → stage (a .line) ≡ g → ((x : Moment E) → event x ≡ Goes b (lineAt mine next) → ((d : Side) → index m (own d) ≡ indexIn (st .base) (x ∷ h) d) → 2 * earlyAt next + waits (st .base) (x ∷ h) < 2 * earlyAt g + waits (st .base) h) → Turn (To (lineAt mine next) (a .index) (a .held)) m
   spends g next m stood less =
       record {
         lowers = λ x e fits indices _.
@@ -156,6 +156,7 @@ module _ {E : Type 0} (K : ℕ) (st : Start) (h : List (Moment E)) (s : State E)
   slot-known-here : known now b slot ≡ true
   slot-known-here = slot-known now b (omega (arith, sound .few)) (a .index % length (now .slots)) (mod-lt (a .index) (omega (arith, sound .slots, sound .some)))
 
+  -- the index of its side is a cell of the memory
   tip-known-here : known now b tip ≡ true
   tip-known-here = index-known now b (omega (arith, sound .few)) (own mine)
 
@@ -167,6 +168,7 @@ module _ {E : Type 0} (K : ℕ) (st : Start) (h : List (Moment E)) (s : State E)
   abbrev operationFrom : Stage → Option E → Operation E
   operationFrom g e = operationAt mine g b (length (now .slots)) (a .index) e
 
+  -- the step goes as the stage says after that reply
   abbrev After : Stage → Reply E × Meaning E → Type 0
   After g t = Turn (nextAt mine g (length (now .slots)) (a .index) (a .held) (t .0)) (t .1)
 

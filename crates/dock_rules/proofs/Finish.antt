@@ -1,18 +1,14 @@
 -- The law of a history holds of the history with one moment more. Assumes nothing.
-use mathlib.Core.Path.{_≡_, refl, sym, ap, subst, _∙_}
-use mathlib.Core.Bool.{Bool, true, false, cond}
+use mathlib.Core.Path.{_≡_, sym, ap, subst, _∙_}
 use mathlib.Core.List.{List, [], _∷_, _++_}
-use mathlib.Core.Logic.{_⊎_, inl, inr}
-use Prim.Native.Nat.{ℕ, suc, _+_, _<_, _≤_}
+use Prim.Native.Nat.{ℕ, suc, _<_, _≤_}
 use native.Mathlib.Omega.{arith}
-use lib.Dec.{eqb}
 use lib.ListN.{length}
-use Rattle.std.specs.declared.option.Option.{Option}
-use Rattle.std.specs.declared.option.Option.the-variants.{Some, None}
+use Rattle.std.specs.declared.option.Option.the-variants.{Some}
 use Rattle.slot_memory.specs.Meaning.{index}
 use Rattle.dock_rules.specs.Words.{Side, Putting, Taking}
 use Rattle.dock_rules.specs.History.{Moment, Running, Placed, EndedCall, event, endedBy, untouchedBy, indexIn, alterations, running, stored, placed, ended, untouched, place}
-use Rattle.dock_rules.specs.Law.{Each, places, gives, Apart, HasPlace, Unmoved, Linearizable}
+use Rattle.dock_rules.specs.Law.{Each, places, gives, Apart, HasPlace}
 use Rattle.dock_rules.specs.Runs.{Start, State}
 use Rattle.dock_rules.proofs.Sound.{own}
 use Rattle.dock_rules.proofs.Knows.{View}
@@ -24,6 +20,7 @@ pub each-append : {X : Type 0} (P : X → Type 0) (xs ys : List X) → Each P xs
 each-append P [] ys k l = l
 each-append P (x ∷ xs) ys k l = (k .0, each-append P xs ys (k .1) l)
 
+-- what follows from P follows for each of a list
 pub each-map : {X : Type 0} (P Q : X → Type 0) (xs : List X) → ((x : X) → P x → Q x) → Each P xs → Each Q xs
 each-map P Q [] f k = tt
 each-map P Q (x ∷ xs) f k = (f x (k .0), each-map P Q xs f (k .1))
@@ -60,17 +57,21 @@ module _ {E : Type 0} {K : ℕ} {st : Start} {h : List (Moment E)} {s : State E}
   abbrev now : ℕ
   now = suc (length h)
 
+  -- the law before the moment, as one statement of each ended call
   each-answered : Each (Answered (st .length) (placed (st .base) h)) (ended (st .base) h)
   each-answered = each-both _ _ _ (ended (st .base) h) (λ c k l. (k, l)) (i .law .place) (i .law .agrees)
 
+  -- one place more, of a serial that had none, changes no answer
   still-answered : {ps : List (Placed E)} → Places st now v s ps → Each (Answered (st .length) ps) (ended (st .base) h)
   still-answered noMore = each-answered
   still-answered (oneMore w none weighs) = each-map _ _ (ended (st .base) h) (answered-still (st .length) (place now w) (placed (st .base) h) none) each-answered
 
+  -- the new place is later than all before
   still-apart : {ps : List (Placed E)} → Places st now v s ps → Apart ps
   still-apart noMore = i .law .apart
   still-apart (oneMore w none weighs) = (each-map _ _ (placed (st .base) h) (λ p k. omega arith) (i .past), i .law .apart)
 
+  -- and no later than this moment
   still-past : {ps : List (Placed E)} → Places st now v s ps → Each (λ p. p .moment ≤ now) ps
   still-past noMore = each-map _ _ (placed (st .base) h) (λ p k. omega arith) (i .past)
   still-past (oneMore w none weighs) = (omega arith, each-map _ _ (placed (st .base) h) (λ p k. omega arith) (i .past))
@@ -84,6 +85,7 @@ module _ {E : Type 0} {K : ℕ} {st : Start} {h : List (Moment E)} {s : State E}
       (i .given-up)
       (i .law .untouched)
 
+  -- the invariant goes on, from what a moment shows of the state after it
   pub finish : (m : Moment E) (t : State E) (u : View E) → Inner K st u now t (running (st .base) (m ∷ h)) → viewOf st (m ∷ h) t ≡ u → ((d : Side) → index (t .memory) (own d) ≡ indexIn (st .base) (m ∷ h) d) → s .dock .started ≤ t .dock .started → ((x : ℕ) → x ≤ s .dock .started → weight (st .bays) u t x ≤ weight (st .bays) v s x) → Places st now v s (u .ps) → Each (Answered (st .length) (u .ps)) (endedBy (event m) now (m .trays) (running (st .base) h)) → Each (λ r. (r .serial ≤ t .dock .started) × (weight (st .bays) u t (r .serial) ≡ 0) × (places (r .serial) (u .ps) ≡ [])) (untouchedBy (event m) (running (st .base) h)) → Each (λ r. r .read ≡ alterations (st .base) h Putting) (stored (st .base) m h Putting) → Each (λ r. r .read ≡ alterations (st .base) h Taking) (stored (st .base) m h Taking) → Inv K st (m ∷ h) t
   finish m t u inner view indices more lighter ps answered left puts takes =
       let E′ = endedBy (event m) now (m .trays) (running (st .base) h) in

@@ -1,32 +1,30 @@
 -- Every call of every run, granted or refused, keeps the invariant. Assumes nothing.
 use mathlib.Core.Path.{_≡_, refl, sym, ap, subst, _∙_}
-use mathlib.Core.Bool.{Bool, true, false, cond, not, _&&_}
+use mathlib.Core.Bool.{Bool, true, false, cond, not}
 use mathlib.Core.List.{List, [], _∷_}
-use mathlib.Core.Logic.{_⊎_, inl, inr}
-use Prim.Native.Nat.{ℕ, suc, _+_, _<_, _≤_}
+use mathlib.Core.Logic.{inl, inr}
+use Prim.Native.Nat.{ℕ, _<_}
 use native.Mathlib.Omega.{arith}
-use lib.Dec.{eqb, ltb, leb}
+use lib.Dec.{eqb, leb}
 use lib.ListN.{length, set, length-set}
 use Rattle.std.specs.Finite.{nth}
 use Rattle.std.specs.Options as options
 use Rattle.std.specs.declared.option.Option.{Option}
 use Rattle.std.specs.declared.option.Option.the-variants.{Some, None}
 use Rattle.std.proofs.shelf.Tests.{true≢false, false≢true, eqb-true, eq-eqb, ne-eqb, leb-false, not-false, cond-false}
-use Rattle.slot_memory.specs.Meaning.{mark}
-use Rattle.slot_memory.specs.Rules.{Operation, Free, touched, May}
-use Rattle.dock_rules.specs.declared.Attempt.{Attempt}
+use Rattle.slot_memory.specs.Rules.{Free, touched, May}
 use Rattle.dock_rules.specs.declared.BayRecord.{BayRecord}
 use Rattle.dock_rules.specs.declared.BayRecord.the-variants.{Free as Idle, UnderWay, Ended, Owed}
 use Rattle.dock_rules.specs.declared.Outcome.{Outcome}
 use Rattle.dock_rules.specs.declared.Outcome.the-variants.{Full, Stored, Empty, Taken}
 use Rattle.dock_rules.specs.declared.Refusal.{Refusal}
 use Rattle.dock_rules.specs.Calls.{World, Book, Call, Open, Put, Take, Step, Collect, Abandon, Enter, Waive, Answer, Refused, Settled, isFree, attempt, outcome, serialOf, owedOf, isIt, first, reasons, refusal, recordOf, afterEnd, step, stepped, collect, abandon, granted, answered, does, attempted, nextOperation, touches, MayCall}
-use Rattle.dock_rules.specs.History.{Moment, Request, PutOf, TakeOf, Running, Quiet, eventOf, running}
+use Rattle.dock_rules.specs.History.{Moment, PutOf, TakeOf, Quiet, eventOf}
 use Rattle.dock_rules.specs.Runs.{Start, State, handing, Handed, carried, momentOf}
-use Rattle.dock_rules.proofs.Invariant.{Knows, viewOf, Inv}
+use Rattle.dock_rules.proofs.Invariant.{Inv}
 use Rattle.dock_rules.proofs.Bays.{nth-set-same, nth-set-other, nth-some}
 use Rattle.dock_rules.proofs.Stepping.{steps}
-use Rattle.dock_rules.proofs.Others.{busy-runs, quiet, settles, gives-up}
+use Rattle.dock_rules.proofs.Others.{runs-call, quiet, settles, gives-up}
 use Rattle.dock_rules.proofs.Starting.{starts}
 
 -- no reason applies
@@ -34,6 +32,7 @@ abbrev pub NoReason : List (Bool × Refusal) → Type 0
 NoReason [] = Unit {0}
 NoReason (t ∷ ts) = (t .0 ≡ false) × NoReason ts
 
+-- where no refusal is first, none applies
 pub no-reason : (ts : List (Bool × Refusal)) → first ts ≡ None → NoReason ts
 no-reason [] e = tt
 no-reason (t ∷ ts) e = go (t .0) refl (no-reason ts) e
@@ -42,18 +41,21 @@ no-reason (t ∷ ts) e = go (t .0) refl (no-reason ts) e
     go true same rest e = absurd (let z : _≡_ {A = ℕ} 0 1 = cc in omega arith)
     go false same rest e = (same, rest e)
 
+-- a free bay has no call under way
 free-idle : (r : BayRecord) → isFree r ≡ true → attempt r ≡ None
 free-idle Idle e = refl
 free-idle (UnderWay a) e = absurd (false≢true e)
 free-idle (Ended s o) e = refl
 free-idle (Owed s) e = refl
 
+-- nor has one whose ended call has been collected
 end-idle : (x : ℕ) (o : Outcome) → attempt (afterEnd x o) ≡ None
 end-idle x Full = refl
 end-idle x Stored = refl
 end-idle x Empty = refl
 end-idle x Taken = refl
 
+-- nor has one that is owed an entry
 owed-idle : (x : ℕ) (r : BayRecord) → isIt x (owedOf r) ≡ true → attempt r ≡ None
 owed-idle x Idle e = refl
 owed-idle x (UnderWay a) e = absurd (false≢true e)
@@ -65,6 +67,7 @@ module _ {E : Type 0} {K : ℕ} {st : Start} {h : List (Moment E)} {s : State E}
   abbrev After : Call E → List E → Answer × World E → Type 0
   After c t x = Inv K st (momentOf c (x .0) (carried s t (x .1)) ∷ h) (carried s t (x .1))
 
+  -- a refused call is no event
   refused-quiet : (c : Call E) (r : Refusal) → eventOf c (Refused r) ≡ Quiet
   refused-quiet (Open n life base) r = refl
   refused-quiet (Put b e) r = refl
@@ -75,6 +78,7 @@ module _ {E : Type 0} {K : ℕ} {st : Start} {h : List (Moment E)} {s : State E}
   refused-quiet (Enter b x) r = refl
   refused-quiet (Waive b x) r = refl
 
+  -- the run's own trays are as many as the bays
   own-number : eqb (length (s .trays)) (s .dock .bays) ≡ true
   own-number = eq-eqb _ _ (i .inner .static .trays ∙ sym (i .inner .static .bays))
 
@@ -87,6 +91,7 @@ module _ {E : Type 0} {K : ℕ} {st : Start} {h : List (Moment E)} {s : State E}
       same false = refl
   handed-trays t (inr n) = cond-false (eqb (length t) (s .dock .bays)) t (s .trays) (ne-eqb _ _ n)
 
+  -- trays of that number are the run's own
   handed-own : (t : List E) → Handed s t → not (eqb (length t) (s .dock .bays)) ≡ false → t ≡ s .trays
   handed-own t (inl e) k = e
   handed-own t (inr n) k = absurd (n (eqb-true _ _ (not-false _ k)))
@@ -99,9 +104,11 @@ module _ {E : Type 0} {K : ℕ} {st : Start} {h : List (Moment E)} {s : State E}
   with-none : (c : Call E) (t : List E) (an : Answer) (w : World E) → Handed s t → w .trays ≡ t → Inv K st (momentOf c an (record { dock = w .dock; memory = w .memory; trays = s .trays }) ∷ h) (record { dock = w .dock; memory = w .memory; trays = s .trays }) → After c t (an, w)
   with-none c t an w hd e k = subst (λ x. Inv K st (momentOf c an (record { dock = w .dock; memory = w .memory; trays = x }) ∷ h) (record { dock = w .dock; memory = w .memory; trays = x })) (sym (ap (λ x. cond (eqb (length t) (s .dock .bays)) x (s .trays)) e ∙ handed-trays t hd)) k
 
+  -- a bay that is not refused for its number is one of the dock's
   inside-of : (b : ℕ) → leb (s .dock .bays) b ≡ false → b < st .bays
   inside-of b e = omega (arith, leb-false _ _ e, i .inner .static .bays)
 
+  -- and has a tray
   long : (b : ℕ) → b < st .bays → b < length (s .trays)
   long b lt = omega (arith, i .inner .static .trays)
 
@@ -115,12 +122,13 @@ module _ {E : Type 0} {K : ℕ} {st : Start} {h : List (Moment E)} {s : State E}
       go : (r : BayRecord) → recordOf (s .dock) b ≡ r → not (options.isSome (attempt r)) ≡ false → options.Cases (attempted W b (attempt r)) (Unit {0}) (λ o. May K (s .memory) o f) → After (Step b) (s .trays) (step W b (attempt r) f)
       go Idle is idle may = absurd (true≢false idle)
       go (UnderWay a) is idle may =
-          let p = busy-runs (st .length) (st .base) (viewOf st h s) (length h) (running (st .base) h b) a (mark (s .memory) b) (nth (s .trays) b) (subst (λ y. Knows (st .length) (st .base) (viewOf st h s) (length h) (running (st .base) h b) y (mark (s .memory) b) (nth (s .trays) b)) is (i .inner .knows b lt)) in
+          let p = runs-call i b a lt is in
           with-own (Step b) _ (stepped W b a (touched (s .memory) (nextOperation W b a) f) .1)
           (steps i b lt (p .0) a (p .1) is f may (touched (s .memory) (nextOperation W b a) f) refl)
       go (Ended x o) is idle may = absurd (true≢false idle)
       go (Owed x) is idle may = absurd (true≢false idle)
 
+  -- a granted collect: the bay's call has ended, and its record settles
   collect-kept : (b x : ℕ) (t : List E) (k : Book E) (f : Free) → Handed s t → b < st .bays → not (isIt x (serialOf (recordOf (s .dock) b))) ≡ false → options.isSome (attempt (recordOf (s .dock) b)) ≡ false → After (Collect b x) t (granted (handing s t k) (Collect b x) f)
   collect-kept b x t k f hd lt mine late = go (recordOf (s .dock) b) refl mine late
     where
@@ -133,6 +141,7 @@ module _ {E : Type 0} {K : ℕ} {st : Start} {h : List (Moment E)} {s : State E}
       go (Ended q o) is mine late = with-none (Collect b x) t _ (collect W b x (Some o) .1) hd refl (settles i (Collect b x) _ b (afterEnd x o) refl lt (ap attempt is) (end-idle x o))
       go (Owed q) is mine late = absurd (true≢false mine)
 
+  -- a granted abandon: the bay's call is under way, and is given up
   abandon-kept : (b x : ℕ) (t : List E) (k : Book E) (f : Free) → Handed s t → b < st .bays → not (isIt x (serialOf (recordOf (s .dock) b))) ≡ false → options.isSome (outcome (recordOf (s .dock) b)) ≡ false → After (Abandon b x) t (granted (handing s t k) (Abandon b x) f)
   abandon-kept b x t k f hd lt mine late = go (recordOf (s .dock) b) refl mine late
     where
@@ -145,6 +154,7 @@ module _ {E : Type 0} {K : ℕ} {st : Start} {h : List (Moment E)} {s : State E}
       go (Ended q o) is mine late = absurd (true≢false late)
       go (Owed q) is mine late = absurd (true≢false mine)
 
+  -- the tray of a put holds its element
   put-tray : (b : ℕ) (e : E) (t : List E) → t ≡ s .trays → b < st .bays → nth (set t b e) b ≡ Some e
   put-tray b e t is lt = nth-set-same t b e (subst (λ x. b < length x) (sym is) (long b lt))
 

@@ -1,12 +1,12 @@
 -- What holds of every reached history and state. Assumes nothing.
 --
 --   weight    of a serial: how often it may still be placed, or has been; at most once
-use mathlib.Core.Path.{_≡_, refl, sym, ap, subst, _∙_}
-use mathlib.Core.Bool.{Bool, true, false, cond}
+use mathlib.Core.Path.{_≡_}
+use mathlib.Core.Bool.{true, cond}
 use mathlib.Core.List.{List, [], _∷_}
-use Prim.Native.Nat.{ℕ, suc, _+_, _%_, _^_, _<_, _≤_}
+use Prim.Native.Nat.{ℕ, _+_, _%_, _^_, _<_, _≤_}
 use lib.Dec.{eqb, ltb, leb}
-use lib.ListN.{length, getD}
+use lib.ListN.{length}
 use Rattle.std.specs.Finite.{nth}
 use Rattle.std.specs.Options.{isSome}
 use Rattle.std.specs.declared.option.Option.{Option}
@@ -19,7 +19,7 @@ use Rattle.dock_rules.specs.declared.BayRecord.the-variants.{Free as Idle, Und
 use Rattle.dock_rules.specs.Words.{Side, Putting, Taking, side, number}
 use Rattle.dock_rules.specs.Lines.{wrap}
 use Rattle.dock_rules.specs.Calls.{recordOf, mostLifetime}
-use Rattle.dock_rules.specs.History.{Moment, Request, PutOf, TakeOf, Running, Placed, indexIn, alterations, running, waiting, placed, untouched}
+use Rattle.dock_rules.specs.History.{Moment, Request, PutOf, TakeOf, Running, indexIn, alterations, running, waiting, placed, untouched}
 use Rattle.dock_rules.specs.Law.{Each, places, Linearizable}
 use Rattle.dock_rules.specs.Runs.{Start, State}
 use Rattle.dock_rules.proofs.Sound.{own}
@@ -47,6 +47,7 @@ early (UnderWay a) = cond (ltb (number (a .line)) 16) 1 0
 early (Ended s o) = 0
 early (Owed s) = 0
 
+-- the same, for the call of one serial
 abbrev pub earlyBy : ℕ → BayRecord → ℕ
 earlyBy x Idle = 0
 earlyBy x (UnderWay a) = cond (eqb (a .serial) x) (cond (ltb (number (a .line)) 16) 1 0) 0
@@ -54,6 +55,7 @@ earlyBy x (Ended s o) = 0
 earlyBy x (Owed s) = 0
 
 module _ {E : Type 0} where
+  -- the side that a request is of
   abbrev pub sideOf : Request E → Side
   sideOf (PutOf e) = Putting
   sideOf TakeOf = Taking
@@ -63,11 +65,13 @@ module _ {E : Type 0} where
   TrayOf (PutOf e) tr = tr ≡ Some e
   TrayOf TakeOf tr = isSome tr ≡ true
 
+  -- how often a serial is among the calls
   abbrev pub hits : ℕ → List (Running E) → ℕ
   hits x [] = 0
   hits x (r ∷ rs) = cond (eqb (r .serial) x) 1 0 + hits x rs
 
   module _ (L base : ℕ) where
+    -- the call that runs and the bay's note of it agree, and what its line knows holds
     pub record Stood (v : View E) (now : ℕ) (r : Running E) (a : Attempt) (mk : Option Cell) (tr : Option E) : Type 0 where
       pub serial : r .serial ≡ a .serial
       pub line : r .line ≡ a .line
@@ -77,6 +81,7 @@ module _ {E : Type 0} where
       pub since : r .since ≤ now
       pub stands : Stands L base v (side (a .line)) (stage (a .line)) r (a .held) mk tr
 
+    -- a bay has a call that runs exactly while its record is under way
     abbrev pub Knows : View E → ℕ → Option (Running E) → BayRecord → Option Cell → Option E → Type 0
     Knows v now None Idle mk tr = Unit {0}
     Knows v now None (UnderWay a) mk tr = ⊥
@@ -87,6 +92,7 @@ module _ {E : Type 0} where
     Knows v now (Some r) (Ended s o) mk tr = ⊥
     Knows v now (Some r) (Owed s) mk tr = ⊥
 
+  -- the view of a history and a state
   abbrev pub viewOf : Start → List (Moment E) → State E → View E
   viewOf st h s =
       record {
@@ -104,7 +110,6 @@ module _ {E : Type 0} where
     pub some : 0 < st .length
     pub short : st .length ≤ 1024
     pub divides : 2 ^ 32 % st .length ≡ 0
-    pub small : st .base < 2 ^ 32
     pub opened : s .dock .opened ≡ true
     pub bays : s .dock .bays ≡ st .bays
     pub life : s .dock .lifetime ≤ mostLifetime
@@ -119,6 +124,7 @@ module _ {E : Type 0} where
   abbrev pub words : View E → ℕ → ℕ
   words v x = hits x (v .puts) + (hits x (v .takes) + length (places x (v .ps)))
 
+  -- over all bays: a call is early in one, waits, or is placed
   abbrev pub weight : ℕ → View E → State E → ℕ → ℕ
   weight n v s x = sumTo n (λ b. earlyBy x (recordOf (s .dock) b)) + words v x
 
@@ -137,6 +143,7 @@ module _ {E : Type 0} where
     pub once : (x : ℕ) → weight (st .bays) v s x ≤ cond (leb x (s .dock .started)) 1 0
     pub room : sumTo (st .bays) (λ b. early (recordOf (s .dock) b)) + extent v ≤ s .dock .started + (st .base + st .base)
 
+  -- of a history and a state: what holds within, and the law
   pub record Inv (K : ℕ) (st : Start) (h : List (Moment E)) (s : State E) : Type 0 where
     pub inner : Inner K st (viewOf st h s) (length h) s (running (st .base) h)
     pub indices : (d : Side) → index (s .memory) (own d) ≡ indexIn (st .base) h d

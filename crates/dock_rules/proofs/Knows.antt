@@ -5,9 +5,9 @@
 --   pos     the count at which a call read its index
 --   lim     the count at which a side is full or empty
 use mathlib.Core.Path.{_≡_, refl, sym, ap, subst, _∙_}
-use mathlib.Core.Bool.{Bool, true, false, cond, not}
+use mathlib.Core.Bool.{Bool, true, false}
 use mathlib.Core.List.{List, [], _∷_}
-use mathlib.Core.Logic.{_⊎_, inl, inr}
+use mathlib.Core.Logic.{_⊎_}
 use Prim.Native.Nat.{ℕ, _+_, _%_, _<_, _≤_}
 use native.Mathlib.Omega.{arith}
 use lib.ListN.{length, getD}
@@ -20,7 +20,7 @@ use Rattle.std.proofs.shelf.Ways.{tells}
 use Rattle.slot_memory.specs.declared.Cell.{Cell}
 use Rattle.slot_memory.specs.declared.Cell.the-variants.{Slot, At}
 use Rattle.slot_memory.specs.declared.Index.the-variants.{Tail, Head}
-use Rattle.slot_memory.specs.Meaning.{sameIndex, sameCell, isOn, unlessOn}
+use Rattle.slot_memory.specs.Meaning.{sameCell, isOn, unlessOn}
 use Rattle.dock_rules.specs.declared.Outcome.{Outcome}
 use Rattle.dock_rules.specs.declared.Outcome.the-variants.{Stored, Taken}
 use Rattle.dock_rules.specs.Words.{Side, Putting, Taking}
@@ -29,6 +29,7 @@ use Rattle.dock_rules.specs.Law.{queue, gives, places}
 use Rattle.dock_rules.proofs.Sound.{own}
 use Rattle.dock_rules.proofs.Stages.{Stage, S5, S6, S9, S10, S12, S13, S15, S16, S17, outrun}
 
+-- what the bays share
 pub record View (E : Type 0) : Type 0 where
   pub T : ℕ
   pub H : ℕ
@@ -42,13 +43,16 @@ abbrev pub killed : Option Cell → Cell → Bool
 killed None c = false
 killed (Some k) c = sameCell c k
 
+-- the mark that is left of one
 abbrev pub spared : Option Cell → Option Cell → Option Cell
 spared None mk = mk
 spared (Some k) mk = unlessOn k mk
 
+-- the mark is on the side's index
 abbrev pub onIndex : Side → Option Cell → Bool
 onIndex d mk = isOn (At (own d)) mk
 
+-- the test of cells tells
 pub same-cell : (c d : Cell) → sameCell c d ≡ true → c ≡ d
 same-cell (Slot i) (Slot j) e = ap Slot (eqb-true i j e)
 same-cell (Slot i) (At j) e = absurd (false≢true e)
@@ -65,10 +69,12 @@ was-on (Some k) c None e = absurd (false≢true e)
 was-on (Some k) c (Some d) e = grind (arith, tells, same-cell)
 
 module _ {E : Type 0} where
+  -- the index of a side as a count
   abbrev pub count : View E → Side → ℕ
   count v Putting = v .T
   count v Taking = v .H
 
+  -- the calls of a side that wait
   abbrev pub wait : View E → Side → List (Running E)
   wait v Putting = v .puts
   wait v Taking = v .takes
@@ -77,21 +83,26 @@ module _ {E : Type 0} where
   abbrev pub Behind : View E → Side → Type 0
   Behind v d = 0 < length (wait v d)
 
+  -- what a call carried out is answered
   abbrev pub answer : Side → Option E → Outcome × Option E
   answer Putting tr = (Stored, None)
   answer Taking tr = (Taken, tr)
 
 module _ {E : Type 0} (L base : ℕ) where
+  -- the count at which the ring is full for a put, or empty for a take
   abbrev pub lim : View E → Side → ℕ
   lim v Putting = v .H + L
   lim v Taking = v .T
 
+  -- the plain queue after the placed calls
   abbrev pub queueOf : View E → List E
   queueOf v = queue L (v .ps)
 
+  -- the count at which a call read its index
   abbrev pub pos : Running E → ℕ
   pos r = base + r .read
 
+  -- what the slot of a count holds
   abbrev pub content : View E → ℕ → Option E
   content v i = getD (v .slots) (i % L) None
 
@@ -100,6 +111,7 @@ module _ {E : Type 0} (L base : ℕ) where
   Ready v Putting i tr = content v i ≡ None
   Ready v Taking i tr = content v i ≡ tr
 
+  -- a take that waits holds the first of the queue
   abbrev pub First : View E → Side → Option E → Type 0
   First v Putting tr = Unit {0}
   First v Taking tr = nth (queueOf v) 0 ≡ tr
@@ -120,9 +132,11 @@ module _ {E : Type 0} (L base : ℕ) where
     pub since : r .since < moment
     pub gives : gives L (r .serial) (v .ps) ≡ Some (answer d tr)
 
+  -- past its slot store a call waits or has its place
   abbrev pub Kept : View E → Side → Running E → Option E → Type 0
   Kept v d r tr = Waits v d r tr ⊎ Counted v d r tr
 
+  -- the mark is on the slot that the call means
   abbrev pub onSlot : Running E → Option Cell → Bool
   onSlot r mk = isOn (Slot (pos r % L)) mk
 
@@ -155,6 +169,7 @@ module _ {E : Type 0} (L base : ℕ) where
     pub stays : (d : Side) (tr : Option E) → isSome tr ≡ true → Ready v d (count v d) tr → count w d ≡ count v d
     pub kept : (d : Side) (r : Running E) (tr : Option E) → r .since < now → Kept v d r tr → Kept w d r tr
 
+  -- what a line knows survives another bay's step, its mark if spared
   pub frame : {now : ℕ} {v w : View E} {kill : Option Cell} → Change now v w kill → (d : Side) (g : Stage) (r : Running E) (held : Bool) (mk : Option Cell) (tr : Option E) → r .since < now → isSome tr ≡ true → Stands v d g r held mk tr → Stands w d g r held (spared kill mk) tr
   frame c d S5 r held mk tr since some k = tt
   frame c d S6 r held mk tr since some k = omega (arith, c .counts d)

@@ -1,3 +1,4 @@
+-- The modules of the proof of the run law. Assumes nothing.
 pub mod Wrap
 pub mod Ring
 pub mod Shared

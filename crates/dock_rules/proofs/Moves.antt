@@ -1,14 +1,12 @@
 -- A call about one bay, put together: what it has to show so that the invariant goes on. Assumes nothing.
 use mathlib.Core.Path.{_≡_, refl, sym, ap, subst, _∙_}
-use mathlib.Core.Bool.{Bool, true, false, cond}
 use mathlib.Core.List.{List, [], _∷_}
 use Prim.Native.Nat.{ℕ, suc, _+_, _<_, _≤_}
 use native.Mathlib.Omega.{arith}
 use lib.Dec.{leb}
-use lib.ListN.{length, set, length-set}
+use lib.ListN.{length, length-set}
 use Rattle.std.specs.Finite.{nth}
 use Rattle.std.specs.declared.option.Option.{Option}
-use Rattle.std.specs.declared.option.Option.the-variants.{Some, None}
 use Rattle.slot_memory.specs.declared.Cell.{Cell}
 use Rattle.slot_memory.specs.Meaning.{Meaning, index, mark}
 use Rattle.dock_rules.specs.declared.BayRecord.{BayRecord}
@@ -21,20 +19,18 @@ use Rattle.dock_rules.specs.Runs.{Start, State, momentOf}
 use Rattle.dock_rules.proofs.Sound.{own}
 use Rattle.dock_rules.proofs.Knows.{View, count, wait, Change, spared}
 use Rattle.dock_rules.proofs.Changes.{Sharing}
-use Rattle.dock_rules.proofs.Invariant.{early, earlyBy, sideOf, Knows, Static, viewOf, words, weight, extent, Inner, Inv}
-use Rattle.dock_rules.proofs.Turns.{Bystands, Acts, weighs, weighs-less, goes-on}
+use Rattle.dock_rules.proofs.Invariant.{early, earlyBy, sideOf, Knows, Static, viewOf, words, extent, Inv}
+use Rattle.dock_rules.proofs.Turns.{Acts, weighs, weighs-less, goes-on}
 use Rattle.dock_rules.proofs.Finish.{each-map, Answered, Places, finish}
 use Rattle.dock_rules.proofs.Bays.{About, runs-other, record-other, record-own}
-
-at-most-one : (t : Bool) → cond t 1 0 ≤ 1
-at-most-one true = omega arith
-at-most-one false = omega arith
+use Rattle.dock_rules.proofs.Weights.{at-most-one}
 
 module _ {E : Type 0} (K : ℕ) (st : Start) (h : List (Moment E)) (s : State E) (b : ℕ) where
   -- the state with bay b's record, the memory and the trays anew
   abbrev pub acted : BayRecord → Meaning E → List E → State E
   acted rec mem trs = record { dock = withRecord (s .dock) b rec; memory = mem; trays = trs }
 
+  -- what a call about bay b has to show
   pub record Move (c : Call E) (an : Answer) (rec : BayRecord) (mem : Meaning E) (trs : List E) (u : View E) (kill : Option Cell) (R : Option (Running E)) : Type 0 where
     pub inside : b < st .bays
     pub about : About b (suc (length h)) (alterations (st .base) h) (running (st .base) h) (eventOf c an)
@@ -60,6 +56,7 @@ module _ {E : Type 0} (K : ℕ) (st : Start) (h : List (Moment E)) (s : State E)
     pub puts : Each (λ r. r .read ≡ alterations (st .base) h Putting) (stored (st .base) (momentOf c an (acted rec mem trs)) h Putting)
     pub takes : Each (λ r. r .read ≡ alterations (st .base) h Taking) (stored (st .base) (momentOf c an (acted rec mem trs)) h Taking)
 
+  -- what no call changes is kept, since the lengths are
   static-after : (rec : BayRecord) (mem : Meaning E) (trs : List E) → Static K st s → length (mem .marks) ≡ 16 → length (mem .slots) ≡ st .length → mem .spare ≤ K → length trs ≡ st .bays → Static K st (acted rec mem trs)
   static-after rec mem trs k marks slots spare trays =
       record {
@@ -67,7 +64,6 @@ module _ {E : Type 0} (K : ℕ) (st : Start) (h : List (Moment E)) (s : State E)
         some = k .some;
         short = k .short;
         divides = k .divides;
-        small = k .small;
         opened = k .opened;
         bays = k .bays;
         life = k .life;
@@ -79,6 +75,7 @@ module _ {E : Type 0} (K : ℕ) (st : Start) (h : List (Moment E)) (s : State E)
         spare = spare;
       }
 
+  -- and so the invariant goes on: bay b acts, the others stand by
   pub moved : {c : Call E} {an : Answer} {rec : BayRecord} {mem : Meaning E} {trs : List E} {u : View E} {kill : Option Cell} {R : Option (Running E)} → Inv K st h s → Move c an rec mem trs u kill R → Inv K st (momentOf c an (acted rec mem trs) ∷ h) (acted rec mem trs)
   moved {c} {an} {rec} {mem} {trs} {u} {kill} {R} i k =
       let t = acted rec mem trs in

@@ -1,30 +1,30 @@
 -- A dock just opened. Assumes nothing.
-use mathlib.Core.Path.{_≡_, refl, sym, ap, subst, _∙_}
-use mathlib.Core.Bool.{Bool, true, false, cond, not, _&&_, _||_}
-use mathlib.Core.List.{List, [], _∷_}
-use Prim.Native.Nat.{ℕ, zero, suc, _+_, _%_, _^_, _<_, _≤_}
+use mathlib.Core.Path.{_≡_, refl, ap, subst}
+use mathlib.Core.Bool.{true, false}
+use mathlib.Core.List.{List, []}
+use Prim.Native.Nat.{ℕ, zero, suc, _+_, _^_, _<_, _≤_}
 use native.Mathlib.Omega.{arith}
-use lib.Dec.{eqb, ltb, leb}
+use lib.Dec.{eqb, ltb}
 use lib.ListN.{length, getD, replicate, length-replicate}
-use Rattle.std.specs.Finite.{nth}
 use Rattle.std.specs.Options as options
 use Rattle.std.specs.declared.option.Option.{Option}
 use Rattle.std.specs.declared.option.Option.the-variants.{Some, None}
 use Rattle.std.proofs.shelf.Tests.{not-false, and-parts, or-parts, ltb-true, ltb-false, leb-true, eqb-true}
-use Rattle.slot_memory.specs.Meaning.{Meaning, mark}
+use Rattle.slot_memory.specs.Meaning.{Meaning}
 use Rattle.slot_memory.specs.Rules.{Free, cleared}
 use Rattle.dock_rules.specs.declared.BayRecord.{BayRecord}
 use Rattle.dock_rules.specs.declared.BayRecord.the-variants.{Free as Idle}
 use Rattle.dock_rules.specs.declared.Refusal.{Refusal}
-use Rattle.dock_rules.specs.Words.{Side, Putting, Taking}
-use Rattle.dock_rules.specs.Calls.{World, Open, Answer, Opened, goodLength, mostLifetime, badBays, badLife, opened, recordOf, reasons, refusal, answered, does, MayCall, attempt}
+use Rattle.dock_rules.specs.Words.{Putting, Taking}
+use Rattle.dock_rules.specs.Calls.{World, Open, Opened, goodLength, mostLifetime, badBays, badLife, opened, recordOf, reasons, refusal, answered, does, MayCall, attempt}
 use Rattle.dock_rules.specs.Runs.{Start, State}
 use Rattle.dock_rules.proofs.Ring.{ring-empty}
 use Rattle.dock_rules.proofs.Sums.{sumTo, sum-most}
-use Rattle.dock_rules.proofs.Invariant.{early, earlyBy, viewOf, Inner, Inv}
-use Rattle.dock_rules.proofs.Granting.{NoReason, no-reason}
+use Rattle.dock_rules.proofs.Invariant.{early, earlyBy, viewOf, Inv}
+use Rattle.dock_rules.proofs.Granting.{no-reason}
 use Rattle.dock_rules.proofs.Others.{knows-idle}
 
+-- a list of one value has it everywhere
 all-same : {X : Type 0} (n i : ℕ) (x : X) → getD (replicate n x) i x ≡ x
 all-same zero i x = refl
 all-same (suc n) zero x = refl
@@ -37,12 +37,15 @@ module _ {E : Type 0} (K n life base : ℕ) (m : Meaning E) (trays : List E) (sp
   abbrev state : State E
   state = record { dock = opened n life; memory = cleared m base spare; trays = trays }
 
+  -- every bay of a dock just opened is free
   idle : (b : ℕ) → recordOf (opened n life) b ≡ Idle
   idle b = all-same 16 b Idle
 
+  -- so nothing is early in it
   sum-none : (f : BayRecord → ℕ) → f Idle ≡ 0 → sumTo n (λ b. f (recordOf (opened n life) b)) ≡ 0
   sum-none f zero-idle = let most = sum-most n 0 (λ b. f (recordOf (opened n life) b)) (λ b. omega (arith, ap f (idle b))) in omega arith
 
+  -- the invariant of a dock just opened
   pub opens : Inv K start [] state
   opens =
       let parts = and-parts _ _ good in
@@ -56,7 +59,6 @@ module _ {E : Type 0} (K n life base : ℕ) (m : Meaning E) (trays : List E) (sp
             some = ltb-true _ _ (parts .0);
             short = leb-true _ _ (rest .0);
             divides = eqb-true _ _ (rest .1);
-            small = fits;
             opened = refl;
             bays = refl;
             life = short;

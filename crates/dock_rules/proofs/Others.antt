@@ -2,34 +2,29 @@
 use mathlib.Core.Path.{_≡_, refl, sym, ap, subst, _∙_}
 use mathlib.Core.Bool.{Bool, true, false, cond}
 use mathlib.Core.List.{List, [], _∷_}
-use mathlib.Core.Logic.{_⊎_, inl, inr}
 use Prim.Native.Nat.{ℕ, suc, _+_, _<_, _≤_}
 use native.Mathlib.Omega.{arith}
-use lib.Dec.{eqb, ltb, leb}
-use lib.ListN.{length, set, length-set}
+use lib.Dec.{ltb}
+use lib.ListN.{length}
 use Rattle.std.specs.Finite.{nth}
-use Rattle.std.specs.Options.{isSome}
 use Rattle.std.specs.declared.option.Option.{Option}
 use Rattle.std.specs.declared.option.Option.the-variants.{Some, None}
-use Rattle.std.proofs.shelf.Tests.{cases-eq, cond-true, cond-false, leb-true, leb-false, le-leb, ne-eqb}
-use Rattle.std.proofs.shelf.Ways.{tells}
 use Rattle.slot_memory.specs.Meaning.{mark}
 use Rattle.dock_rules.specs.declared.Abandoned.{Abandoned}
 use Rattle.dock_rules.specs.declared.Abandoned.the-variants.{Untouched, Stored as StoredAway, Taken as TakenAway}
 use Rattle.dock_rules.specs.declared.Attempt.{Attempt}
 use Rattle.dock_rules.specs.declared.BayRecord.{BayRecord}
 use Rattle.dock_rules.specs.declared.BayRecord.the-variants.{Free as Idle, UnderWay, Ended, Owed}
-use Rattle.dock_rules.specs.Words.{Side, Putting, Taking, side, isTaking, number}
-use Rattle.dock_rules.specs.Calls.{Call, Answer, Put, Take, Abandon, Left, Began, attempt, recordOf, begun, leftAt, afterLeft}
-use Rattle.dock_rules.specs.History.{Moment, Request, PutOf, TakeOf, Running, Event, Quiet, Starts, Gives, begins, firstLine, event, eventOf, runningAfter, storedBy, turnedBy, endedBy, untouchedBy, isUntouched, when, indexIn, alterations, running}
+use Rattle.dock_rules.specs.Words.{Putting, Taking, side, isTaking, number}
+use Rattle.dock_rules.specs.Calls.{Call, Answer, Abandon, Left, attempt, recordOf, leftAt, afterLeft}
+use Rattle.dock_rules.specs.History.{Moment, Running, Quiet, eventOf, runningAfter, storedBy, turnedBy, endedBy, untouchedBy, isUntouched, when, alterations, running}
 use Rattle.dock_rules.specs.Law.{Each, places}
 use Rattle.dock_rules.specs.Runs.{Start, State, momentOf}
-use Rattle.dock_rules.proofs.Sums.{sumTo, sum-change}
-use Rattle.dock_rules.proofs.Knows.{View, wait}
-use Rattle.dock_rules.proofs.Invariant.{early, earlyBy, sideOf, TrayOf, Stood, Knows, Static, viewOf, words, weight, extent, Inner, Inv}
+use Rattle.dock_rules.proofs.Knows.{View}
+use Rattle.dock_rules.proofs.Invariant.{early, earlyBy, Knows, viewOf, Inv}
 use Rattle.dock_rules.proofs.Turns.{known-still}
-use Rattle.dock_rules.proofs.Bays.{About, nth-set-same, nth-set-other, nth-some, record-own, record-other, runs-other, starts-own, gives-own}
-use Rattle.dock_rules.proofs.Moments.{Happens, same-index, calm-view}
+use Rattle.dock_rules.proofs.Bays.{About, gives-own}
+use Rattle.dock_rules.proofs.Moments.{silent, calm-view}
 use Rattle.dock_rules.proofs.Finish.{each-none, finish, noMore}
 use Rattle.dock_rules.proofs.Moves.{acted, moved}
 use Rattle.dock_rules.proofs.Calm.{no-change, unchanged, calm-move}
@@ -50,18 +45,21 @@ module _ {E : Type 0} (L base : ℕ) where
   busy-runs v now None a mk tr k = absurd k
   busy-runs v now (Some r) a mk tr k = (r, refl)
 
+  -- nothing is to know of a bay with no call under way
   pub knows-idle : (v : View E) (now : ℕ) (rec : BayRecord) (mk : _) (tr : Option E) → attempt rec ≡ None → Knows L base v now None rec mk tr
   knows-idle v now Idle mk tr e = tt
   knows-idle v now (UnderWay a) mk tr e = absurd (let z : _≡_ {A = ℕ} 0 1 = cc in omega arith)
   knows-idle v now (Ended s o) mk tr e = tt
   knows-idle v now (Owed s) mk tr e = tt
 
+-- and it is not early
 pub idle-early : (rec : BayRecord) → attempt rec ≡ None → early rec ≡ 0
 idle-early Idle e = refl
 idle-early (UnderWay a) e = absurd (let z : _≡_ {A = ℕ} 0 1 = cc in omega arith)
 idle-early (Ended s o) e = refl
 idle-early (Owed s) e = refl
 
+-- nor early of any serial
 pub idle-earlyBy : (x : ℕ) (rec : BayRecord) → attempt rec ≡ None → earlyBy x rec ≡ 0
 idle-earlyBy x Idle e = refl
 idle-earlyBy x (UnderWay a) e = absurd (let z : _≡_ {A = ℕ} 0 1 = cc in omega arith)
@@ -75,19 +73,17 @@ module _ {E : Type 0} {K : ℕ} {st : Start} {h : List (Moment E)} {s : State E}
   abbrev now : ℕ
   now = suc (length h)
 
+  -- a bay whose record is under way runs a call
+  pub runs-call : (b : ℕ) (a : Attempt) → b < st .bays → recordOf (s .dock) b ≡ UnderWay a → (r : Running E) × (running (st .base) h b ≡ Some r)
+  runs-call b a lt is =
+      busy-runs (st .length) (st .base) v (length h) (running (st .base) h b) a (mark (s .memory) b) (nth (s .trays) b) (subst (λ y. Knows (st .length) (st .base) v (length h) (running (st .base) h b) y (mark (s .memory) b) (nth (s .trays) b)) is (i .inner .knows b lt))
+
   -- nothing happens: the call is refused
   pub quiet : (c : Call E) (an : Answer) → eventOf c an ≡ Quiet → Inv K st (momentOf c an s ∷ h) s
   quiet c an e =
       let m = momentOf c an s in
       let runs : (b : ℕ) → running (st .base) (m ∷ h) b ≡ running (st .base) h b = λ b. ap (λ x. runningAfter x b now (alterations (st .base) h) (running (st .base) h b)) e in
-      let happens : Happens st m h false false [] [] [] = record {
-        tail = same-index st m h Putting (i .indices Putting);
-        head = same-index st m h Taking (i .indices Taking);
-        puts = ap (λ x. storedBy Putting x (running (st .base) h)) e;
-        takes = ap (λ x. storedBy Taking x (running (st .base) h)) e;
-        turned = ap (λ x. turnedBy x (running (st .base) h)) e;
-      }
-      in
+      let happens = silent st m h e (i .indices Putting) (i .indices Taking) (λ d. refl) refl in
       finish i m s v
       (record {
         static = i .inner .static;
@@ -128,6 +124,7 @@ module _ {E : Type 0} {K : ℕ} {st : Start} {h : List (Moment E)} {s : State E}
       (each-none _ _ (ap (λ x. endedBy x now (s .trays) (running (st .base) h)) e))
       (each-none _ _ (ap (λ x. untouchedBy x (running (st .base) h)) e)))
 
+  -- a bay whose call was given up has none under way
   left-idle : (x : ℕ) (a : Abandoned) → attempt (afterLeft x a) ≡ None
   left-idle x Untouched = refl
   left-idle x StoredAway = refl
@@ -138,7 +135,7 @@ module _ {E : Type 0} {K : ℕ} {st : Start} {h : List (Moment E)} {s : State E}
   gives-up b x a inside is same =
       let rec = afterLeft x (leftAt (a .line)) in
       let idle = left-idle x (leftAt (a .line)) in
-      let p = busy-runs (st .length) (st .base) v (length h) (running (st .base) h b) a (mark (s .memory) b) (nth (s .trays) b) (subst (λ y. Knows (st .length) (st .base) v (length h) (running (st .base) h b) y (mark (s .memory) b) (nth (s .trays) b)) is (i .inner .knows b inside)) in
+      let p = runs-call b a inside is in
       moved K st h s b i
       (calm-move K st h s b (Abandon b x) (Left (leftAt (a .line))) rec (s .memory) (s .trays) None i inside (unchanged K st h s b (i .inner .static .spare))
       refl

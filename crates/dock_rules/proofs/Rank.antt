@@ -28,7 +28,7 @@ use Rattle.dock_rules.specs.Words.{Side, Putting, Taking, side}
 use Rattle.dock_rules.specs.History.{Moment, Event, Running, event, storedBy, altered, running, waiting, stored}
 use Rattle.dock_rules.specs.Law.{bound}
 use Rattle.dock_rules.proofs.Sound.{own}
-use Rattle.dock_rules.proofs.Stages.{Stage, S5, S6, S9, S10, S12, S13, S15, S16, S17, stage, numberAt, outrun}
+use Rattle.dock_rules.proofs.Stages.{earlyAt, Stage, S5, S6, S9, S10, S12, S13, S15, S16, S17, stage, numberAt, outrun}
 use Rattle.dock_rules.proofs.Sums.{sumTo, sum-change, sum-most}
 
 -- the rank of a call at a stage, by whether it is fresh, goes from line 10 to line 12, and is live
@@ -47,13 +47,10 @@ rankAt S17 fresh on live = cond live 0 2
 abbrev pub aim : Side → Stage → ℕ → ℕ → Cell
 aim d g L i = cond (ltb (numberAt g) 12 || eqb (numberAt g) 15) (Slot (i % L)) (At (own d))
 
--- 1 before the slot store, 0 past it
-abbrev pub beforeAt : Stage → ℕ
-beforeAt g = cond (ltb (numberAt g) 16) 1 0
-
+-- 1 for a bay whose call has not made its slot store, or that has no call and may still begin one
 abbrev pub before : BayRecord → ℕ
 before Idle = 1
-before (UnderWay a) = beforeAt (stage (a .line))
+before (UnderWay a) = earlyAt (stage (a .line))
 before (Ended s o) = 1
 before (Owed s) = 1
 
@@ -96,6 +93,7 @@ module _ {E : Type 0} where
   abbrev pub waits : ℕ → List (Moment E) → ℕ
   waits base h = length (waiting base h Putting) + length (waiting base h Taking)
 
+  -- how many stores may still be accepted without an end
   budget : ℕ → ℕ → List (Moment E) → List BayRecord → ℕ
   budget base n h rs = 2 * befores n rs + waits base h
 

@@ -1,7 +1,7 @@
 -- What the ring, the two counts, the waiting calls and the plain queue have to do with one another, and how that stays as an
 -- index moves or a slot is stored in. Assumes nothing.
 use mathlib.Core.Path.{_≡_, refl, sym, ap, subst, _∙_}
-use mathlib.Core.List.{List, [], _∷_, _++_, map, append-nil, append-assoc}
+use mathlib.Core.List.{List, [], _∷_, _++_, map, append-nil}
 use Prim.Native.Nat.{ℕ, suc, _+_, _-_, _%_, _<_, _≤_}
 use native.Mathlib.Nat.{add-zero}
 use native.Mathlib.Omega.{arith}
@@ -20,6 +20,7 @@ module _ {E : Type 0} where
   front (r ∷ rs) [] = []
   front (r ∷ rs) (x ∷ q) = None ∷ map Some q
 
+  -- what a request leaves in its slot
   abbrev pub heldBy : Request E → Option E
   heldBy (PutOf e) = Some e
   heldBy TakeOf = None
@@ -29,6 +30,7 @@ module _ {E : Type 0} where
   back [] = []
   back (r ∷ rs) = heldBy (r .request) ∷ []
 
+  -- the ring's contents from Head on
   abbrev pub contents : List (Running E) → List (Running E) → List E → List (Option E)
   contents pt tk q = front tk q ++ back pt
 
@@ -43,15 +45,18 @@ module _ {E : Type 0} where
     pub first : length tk ≤ length q
     pub ring : Ring L H slots (contents pt tk q)
 
+  -- a waiting take's slot still counts
   length-front : (tk : List (Running E)) (q : List E) → length tk ≤ length q → length (front tk q) ≡ length q
   length-front [] q h = length-map q Some
   length-front (r ∷ rs) [] h = refl
   length-front (r ∷ rs) (x ∷ q) h = ap suc (length-map q Some)
 
+  -- a waiting put's slot is at most one
   length-back : (pt : List (Running E)) → length (back pt) ≤ length pt
   length-back [] = omega arith
   length-back (r ∷ rs) = omega arith
 
+  -- a put at the far end leaves the front
   front-push : (tk : List (Running E)) (q : List E) (e : E) → length tk ≤ length q → front tk (q ++ e ∷ []) ≡ front tk q ++ Some e ∷ []
   front-push [] q e h = map-append Some q (e ∷ [])
   front-push (r ∷ rs) [] e h = absurd (omega arith)

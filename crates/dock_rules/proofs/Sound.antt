@@ -35,6 +35,7 @@ module _ {E : Type 0} where
   Tied (Some r) (Ended s o) = ⊥
   Tied (Some r) (Owed s) = ⊥
 
+  -- what progress needs of a reached state
   pub record Sound (K : ℕ) (st : Start) (h : List (Moment E)) (s : State E) : Type 0 where
     pub few : st .bays ≤ 16
     pub bays : s .dock .bays ≡ st .bays

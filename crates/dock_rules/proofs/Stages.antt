@@ -4,7 +4,7 @@ use mathlib.Core.Path.{_≡_}
 use mathlib.Core.Bool.{Bool, cond, not}
 use Prim.Native.Nat.{ℕ, _+_, _%_}
 use native.Mathlib.Omega.{arith}
-use lib.Dec.{eqb}
+use lib.Dec.{eqb, ltb}
 use Rattle.std.specs.Options.{isSome}
 use Rattle.std.specs.declared.option.Option.{Option}
 use Rattle.std.specs.declared.option.Option.the-variants.{None}
@@ -18,6 +18,7 @@ use Rattle.dock_rules.specs.Words.{Side, Putting, Taking, side, number}
 use Rattle.dock_rules.specs.Lines.{Next, To, Ends, wrap, numberIn, contentIn, accepts, operation, next}
 use Rattle.dock_rules.proofs.Sound.{own}
 
+-- the numbers of the lines
 pub data Stage : Type 0 where
   S5 : Stage
   S6 : Stage
@@ -40,6 +41,10 @@ numberAt S13 = 13
 numberAt S15 = 15
 numberAt S16 = 16
 numberAt S17 = 17
+
+-- 1 at a line before the slot store has been accepted, 0 past it
+abbrev pub earlyAt : Stage → ℕ
+earlyAt g = cond (ltb (numberAt g) 16) 1 0
 
 -- the line of a side at a stage
 abbrev pub lineAt : Side → Stage → Line
@@ -100,10 +105,12 @@ abbrev pub other : Side → Side
 other Putting = Taking
 other Taking = Putting
 
+-- the end at line 6
 abbrev pub turnedAway : Side → Outcome
 turnedAway Putting = Full
 turnedAway Taking = Empty
 
+-- the end at line 16 or 17
 abbrev pub carriedOut : Side → Outcome
 carriedOut Putting = Stored
 carriedOut Taking = Taken

@@ -1,20 +1,20 @@
 -- A granted step, whatever its line. Assumes nothing.
 use mathlib.Core.Path.{_≡_, refl, sym, ap, subst, _∙_}
-use mathlib.Core.Bool.{Bool, true, false, cond, _&&_}
-use mathlib.Core.List.{List, [], _∷_}
-use Prim.Native.Nat.{ℕ, suc, _+_, _%_, _<_, _≤_}
+use mathlib.Core.Bool.{cond, _&&_}
+use mathlib.Core.List.{List}
+use Prim.Native.Nat.{ℕ, _%_, _<_}
 use native.Mathlib.Omega.{arith}
 use lib.Dec.{eqb}
 use lib.ListN.{length}
 use Rattle.std.specs.Finite.{nth}
 use Rattle.std.specs.declared.option.Option.{Option}
-use Rattle.std.specs.declared.option.Option.the-variants.{Some, None}
+use Rattle.std.specs.declared.option.Option.the-variants.{Some}
 use Rattle.slot_memory.specs.Meaning.{Meaning}
-use Rattle.slot_memory.specs.Rules.{Operation, Reply, Free, touched, May}
+use Rattle.slot_memory.specs.Rules.{Reply, Free, touched, May}
 use Rattle.slot_memory.proofs.Ranges.{slot-known, index-known}
 use Rattle.dock_rules.specs.declared.Attempt.{Attempt}
 use Rattle.dock_rules.specs.declared.BayRecord.the-variants.{UnderWay}
-use Rattle.dock_rules.specs.Words.{Side, Putting, Taking, isTaking, side, number}
+use Rattle.dock_rules.specs.Words.{Side, isTaking, side}
 use Rattle.dock_rules.specs.Lines.{contentIn, found, operation, next, traysAfter}
 use Rattle.dock_rules.specs.Calls.{recordOf}
 use Rattle.dock_rules.specs.History.{Moment, Running, running}
@@ -45,6 +45,7 @@ module _ {E : Type 0} {K : ℕ} {st : Start} {h : List (Moment E)} {s : State E}
   trays-at o S16 p = s .trays
   trays-at o S17 p = s .trays
 
+  -- by the stage, the step keeps the invariant
   step-at : (g : Stage) → stage (a .line) ≡ g → (x : Reply E × Meaning E) → WayTo K (s .memory) b (operationAt d g b (st .length) (a .index) tr) x → GoalAt i b inside r a runs is (nextAt d g (st .length) (a .index) (a .held) (x .0)) (x .1) (trays-at d g (x .0))
   step-at S5 e x w = line5 i b inside r a runs is e w refl
   step-at S6 e x w = line6 i b inside r a runs is e w refl
@@ -56,12 +57,15 @@ module _ {E : Type 0} {K : ℕ} {st : Start} {h : List (Moment E)} {s : State E}
   step-at S16 e x w = line16 i b inside r a runs is e w refl
   step-at S17 e x w = line17 i b inside r a runs is e w refl
 
+  -- the bay's number is a mark's
   few : b < 16
   few = omega (arith, i .inner .static .few)
 
+  -- the slot that a call means is in the memory
   slot-within : a .index % st .length < length (s .memory .slots)
   slot-within = subst (λ n. a .index % st .length < n) (sym (i .inner .static .slots)) (slot-in (st .length) (a .index) (i .inner .static .some))
 
+  -- so the operation of every stage is in range
   in-range : (g : Stage) → InRange (s .memory) b (operationAt d g b (st .length) (a .index) tr)
   in-range S5 = tt
   in-range S6 = tt
@@ -73,6 +77,7 @@ module _ {E : Type 0} {K : ℕ} {st : Start} {h : List (Moment E)} {s : State E}
   in-range S16 = (refl, index-known (s .memory) b few (own d))
   in-range S17 = (refl, index-known (s .memory) b few (own d))
 
+  -- only a take at line 9 changes the trays
   copied : (o : Side) (g : Stage) (p : Reply E) → cond (isTaking o && eqb (numberAt g) 9) (found (s .trays) b (contentIn p)) (s .trays) ≡ trays-at o g p
   copied o g p = grind arith
 

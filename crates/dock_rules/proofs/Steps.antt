@@ -3,40 +3,39 @@ use mathlib.Core.Path.{_≡_, refl, sym, ap, subst, _∙_}
 use mathlib.Core.Bool.{Bool, true, false, cond, not, _&&_}
 use mathlib.Core.List.{List, [], _∷_}
 use mathlib.Core.Logic.{_⊎_, inl, inr}
-use Prim.Native.Nat.{ℕ, suc, _+_, _%_, _^_, _<_, _≤_}
+use Prim.Native.Nat.{ℕ, _+_, _%_, _<_, _≤_}
 use native.Mathlib.Omega.{arith}
-use lib.Dec.{eqb, ltb}
-use lib.ListN.{length, getD, set, length-set}
+use lib.Dec.{eqb}
+use lib.ListN.{length, getD, length-set}
 use Rattle.std.specs.Finite.{nth}
 use Rattle.std.specs.Options.{isSome}
 use Rattle.std.specs.declared.option.Option.{Option}
 use Rattle.std.specs.declared.option.Option.the-variants.{Some, None}
-use Rattle.std.proofs.shelf.Tests.{false≢true, true≢false, eqb-true, eqb-false, eq-eqb}
+use Rattle.std.proofs.shelf.Tests.{false≢true, true≢false, eqb-true, eqb-false}
 use Rattle.slot_memory.specs.declared.Cell.{Cell}
 use Rattle.slot_memory.specs.declared.Cell.the-variants.{Slot, At}
 use Rattle.slot_memory.specs.declared.Index.{Index}
 use Rattle.slot_memory.specs.declared.Stored.the-variants.{Accepted, Refused}
 use Rattle.slot_memory.specs.Meaning.{Meaning, index, mark, live, isOn}
-use Rattle.slot_memory.specs.Rules.{Write, InSlot, InIndex, Operation, Read, Mark, Store, Reply, Number, Content, Verdict, target, reading, marked, written}
+use Rattle.slot_memory.specs.Rules.{Write, InSlot, InIndex, Operation, Read, Mark, Store, Reply, Number, Verdict, target, reading, marked, written}
 use Rattle.dock_rules.specs.declared.Attempt.{Attempt}
 use Rattle.dock_rules.specs.declared.BayRecord.the-variants.{UnderWay}
 use Rattle.dock_rules.specs.Words.{Side, Putting, Taking, side, number}
-use Rattle.dock_rules.specs.Lines.{Next, To, Ends, wrap, numberIn, contentIn, accepts, found}
+use Rattle.dock_rules.specs.Lines.{Next, To, Ends, wrap, contentIn, found}
 use Rattle.dock_rules.specs.Calls.{Step, answerOf, recordAfter, recordOf}
 use Rattle.dock_rules.specs.History.{Moment, Request, PutOf, TakeOf, Running, alterations, running}
 use Rattle.dock_rules.specs.Runs.{Start, State, momentOf}
 use Rattle.dock_rules.proofs.Sound.{own}
 use Rattle.dock_rules.proofs.Wrap.{wrap-same, wrap-add, wrap-mod}
-use Rattle.dock_rules.proofs.Stages.{Stage, S5, S6, S9, S10, S12, S13, S15, S16, S17, stage, lineAt, numberAt, number-is, other, turnedAway, carriedOut, turns, outrun, leftIn, operationAt, nextAt}
+use Rattle.dock_rules.proofs.Stages.{earlyAt, Stage, S5, S6, S9, S10, S12, S13, S15, S16, S17, stage, lineAt, numberAt, other, turnedAway, carriedOut, turns, outrun, leftIn, nextAt}
 use Rattle.dock_rules.proofs.Shared.{Shared, tail-slot-empty, head-slot-held}
-use Rattle.dock_rules.proofs.Knows.{View, count, wait, lim, queueOf, pos, content, Behind, Ready, onIndex, onSlot, Stands, Kept, Waits, Counted}
+use Rattle.dock_rules.proofs.Knows.{View, count, wait, lim, queueOf, pos, content, Behind, Ready, onIndex, Stands, Kept, Waits, Counted}
 use Rattle.dock_rules.proofs.Invariant.{Noted, TrayOf, sideOf, viewOf, Inv}
-use Rattle.dock_rules.proofs.Bays.{marked-own, nth-set-same, nth-set-other}
-use Rattle.dock_rules.proofs.Turns.{has-tray}
+use Rattle.dock_rules.proofs.Bays.{nth-set-same, nth-set-other}
 use Rattle.dock_rules.proofs.Ways.{Way, wasRead, wasMarked, wasAccepted, wasRefused}
 use Rattle.dock_rules.proofs.Moves.{acted}
 use Rattle.dock_rules.proofs.Calm.{Unshared, unchanged, remarked}
-use Rattle.dock_rules.proofs.Acting.{earlyAt, stood, arrived, goes, number-of}
+use Rattle.dock_rules.proofs.Acting.{stood, arrived, goes, number-of}
 use Rattle.dock_rules.proofs.Moving.{bumped}
 use Rattle.dock_rules.proofs.Helping.{helps}
 use Rattle.dock_rules.proofs.Storing.{stores}
@@ -44,29 +43,34 @@ use Rattle.dock_rules.proofs.Ending.{ends-late, ends-moving, ends-turned}
 
 -- what a way says of the operation that it is of
 module _ {E : Type 0} {K : ℕ} {m : Meaning E} {b : ℕ} where
+  -- a read answers the index and changes nothing
   read-way : {o : Operation E} {r : Reply E} {n : Meaning E} → Way K m b o r n → (i : Index) → o ≡ Read i → _≡_ {A = Reply E × Meaning E} (Number (index m i), m) (r, n)
   read-way (wasRead j) i e = let same : j ≡ i = cc in ap (λ k. (Number (index m k), m)) (sym same)
   read-way (wasMarked c spare low) i e = absurd (let z : _≡_ {A = ℕ} 0 1 = cc in omega arith)
   read-way (wasAccepted w spare low on) i e = absurd (let z : _≡_ {A = ℕ} 0 1 = cc in omega arith)
   read-way (wasRefused w spare low) i e = absurd (let z : _≡_ {A = ℕ} 0 1 = cc in omega arith)
 
+  -- a mark answers the cell and changes the bay's mark and the spare
   mark-way : {o : Operation E} {r : Reply E} {n : Meaning E} → Way K m b o r n → (c : Cell) → o ≡ Mark b c → (spare : ℕ) × (spare ≤ K) × _≡_ {A = Reply E × Meaning E} (reading m c, marked m b (Some c) spare) (r, n)
   mark-way (wasRead j) c e = absurd (let z : _≡_ {A = ℕ} 0 1 = cc in omega arith)
   mark-way (wasMarked d spare low) c e = let same : d ≡ c = cc in (spare, low, ap (λ k. (reading m k, marked m b (Some k) spare)) (sym same))
   mark-way (wasAccepted w spare low on) c e = absurd (let z : _≡_ {A = ℕ} 0 1 = cc in omega arith)
   mark-way (wasRefused w spare low) c e = absurd (let z : _≡_ {A = ℕ} 0 1 = cc in omega arith)
 
+  -- a store is live and accepted, or refused
   store-way : {o : Operation E} {r : Reply E} {n : Meaning E} → Way K m b o r n → (w : Write E) → o ≡ Store b w → ((spare : ℕ) × (spare ≤ K) × (live m b (target w) ≡ true) × _≡_ {A = Reply E × Meaning E} (Verdict Accepted, written m w spare) (r, n)) ⊎ ((spare : ℕ) × (spare ≤ K) × _≡_ {A = Reply E × Meaning E} (Verdict Refused, marked m b None spare) (r, n))
   store-way (wasRead j) w e = absurd (let z : _≡_ {A = ℕ} 0 1 = cc in omega arith)
   store-way (wasMarked d spare low) w e = absurd (let z : _≡_ {A = ℕ} 0 1 = cc in omega arith)
   store-way (wasAccepted x spare low on) w e = let same : x ≡ w = cc in inl (spare, low, ap (λ k. live m b (target k)) (sym same) ∙ on, ap (λ k. (Verdict Accepted, written m k spare)) (sym same))
   store-way (wasRefused x spare low) w e = inr (spare, low, refl)
 
+-- a list of length one
 single : {X : Type 0} (ws : List X) → 0 < length ws → length ws ≤ 1 → (w : X) × (ws ≡ w ∷ [])
 single [] h k = absurd (omega arith)
 single (w ∷ []) h k = (w, refl)
 single (w ∷ x ∷ ws) h k = absurd (omega arith)
 
+-- an option that is not some is none
 none-or-some : {X : Type 0} (o : Option X) → (isSome o ≡ false → o ≡ None)
 none-or-some None h = refl
 none-or-some (Some x) h = absurd (true≢false h)
@@ -75,6 +79,7 @@ module _ {E : Type 0} {K : ℕ} {st : Start} {h : List (Moment E)} {s : State E}
   abbrev v : View E
   v = viewOf st h s
 
+  -- a side's count, as the history has it
   count-is : (o : Side) → count v o ≡ st .base + alterations (st .base) h o
   count-is Putting = refl
   count-is Taking = refl
@@ -84,10 +89,12 @@ module _ {E : Type 0} {K : ℕ} {st : Start} {h : List (Moment E)} {s : State E}
   count-high Putting = omega (arith, i .inner .room, i .inner .static .started, i .inner .static .life)
   count-high Taking = omega (arith, i .inner .room, i .inner .static .started, i .inner .static .life)
 
+  -- a count is within its limit, which goes no further than the lifetime and a ring
   lim-high : (o : Side) → (count v o ≤ lim (st .length) (st .base) v o) × (lim (st .length) (st .base) v o ≤ st .base + 2147484672)
   lim-high Putting = (omega (arith, i .inner .shared .tail, i .inner .shared .room), omega (arith, count-high Taking, i .inner .static .short))
   lim-high Taking = (omega (arith, i .inner .shared .tail), omega (arith, count-high Putting))
 
+  -- at most one call waits on a side
   one-waits : (o : Side) → length (wait v o) ≤ 1
   one-waits Putting = i .inner .shared .one-put
   one-waits Taking = i .inner .shared .one-take
@@ -130,12 +137,15 @@ module _ {E : Type 0} {K : ℕ} {st : Start} {h : List (Moment E)} {s : State E}
     abbrev pub GoalAt : Next → Meaning E → List E → Type 0
     GoalAt n mem trs = Inv K st (momentOf (Step b) (answerOf n) (acted K st h s b (recordAfter (a .serial) n) mem trs) ∷ h) (acted K st h s b (recordAfter (a .serial) n) mem trs)
 
+    -- what the call knows at its stage
     facts : (g : Stage) → stage (a .line) ≡ g → Stands (st .length) (st .base) v d g r (a .held) (mark (s .memory) b) tr
     facts g e = subst (λ y. Stands (st .length) (st .base) v d y r (a .held) (mark (s .memory) b) tr) e (stood i b inside r a runs is .stands)
 
+    -- and that its index is noted from the second line on
     noted : (g : Stage) → stage (a .line) ≡ g → Noted g (a .index ≡ wrap at)
     noted g e = subst (λ y. Noted y (a .index ≡ wrap at)) e (stood i b inside r a runs is .index)
 
+    -- only line 5 reads the index anew
     same-read : (n : ℕ) → numberAt (stage (a .line)) ≡ n → eqb n 5 ≡ false → cond (eqb (number (r .line)) 5) (alterations (st .base) h (side (r .line))) (r .read) ≡ r .read
     same-read n e not-five =
         ap (λ y. cond (eqb y 5) (alterations (st .base) h (side (r .line))) (r .read)) (number-of i b inside r a runs is ∙ e)
@@ -146,12 +156,11 @@ module _ {E : Type 0} {K : ℕ} {st : Start} {h : List (Moment E)} {s : State E}
     is-fresh le x e =
         wrap-same at (count v d) le (omega (arith, count-high d)) (sym (sym (i .inner .wraps d) ∙ eqb-true _ _ e ∙ x))
 
+    -- and has moved where it differs
     is-stale : a .index ≡ wrap at → eqb (index (s .memory) (own d)) (a .index) ≡ false → at ≡ count v d → ⊥
     is-stale x e same = eqb-false _ _ e (i .inner .wraps d ∙ ap wrap (sym same) ∙ sym x)
 
-    mine : (k : Option Cell) (spare : ℕ) → mark (marked (s .memory) b k spare) b ≡ k
-    mine k spare = marked-own (s .memory) b k spare (omega (arith, i .inner .static .marks, i .inner .static .few))
-
+    -- the slot that the noted index means is that of the count, since the length divides 2 ^ 32
     slot-is : a .index ≡ wrap at → a .index % st .length ≡ at % st .length
     slot-is x = ap (λ y. y % st .length) x ∙ wrap-mod (st .length) at (i .inner .static .some) (i .inner .static .divides)
 
@@ -168,9 +177,11 @@ module _ {E : Type 0} {K : ℕ} {st : Start} {h : List (Moment E)} {s : State E}
         (stood i b inside r a runs is .tray)
         stands
 
+    -- a read leaves the memory
     calm-memory : Unshared K st h s b (s .memory)
     calm-memory = unchanged K st h s b (i .inner .static .spare)
 
+    -- line 5 reads the own index
     pub line5 : stage (a .line) ≡ S5 → {o : Operation E} {p : Reply E} {n : Meaning E} → Way K (s .memory) b o p n → o ≡ Read (own d) → GoalAt (nextAt d S5 (st .length) (a .index) (a .held) p) n (s .trays)
     line5 e w is-read =
         subst (λ q. GoalAt (nextAt d S5 (st .length) (a .index) (a .held) (q .0)) (q .1) (s .trays)) (read-way w (own d) is-read)
@@ -188,6 +199,7 @@ module _ {E : Type 0} {K : ℕ} {st : Start} {h : List (Moment E)} {s : State E}
             ap (λ y. cond (eqb y 5) (alterations (st .base) h (side (r .line))) (r .read)) (number-of i b inside r a runs is ∙ ap numberAt e)
             ∙ ap (λ l. alterations (st .base) h (side l)) (stood i b inside r a runs is .line)
 
+    -- line 6 reads the other index: the ring is full or empty, or the call goes on below its limit
     pub line6 : stage (a .line) ≡ S6 → {o : Operation E} {p : Reply E} {n : Meaning E} → Way K (s .memory) b o p n → o ≡ Read (own (other d)) → GoalAt (nextAt d S6 (st .length) (a .index) (a .held) p) n (s .trays)
     line6 e w is-read =
         subst (λ q. GoalAt (nextAt d S6 (st .length) (a .index) (a .held) (q .0)) (q .1) (s .trays)) (read-way w (own (other d)) is-read)
@@ -206,6 +218,7 @@ module _ {E : Type 0} {K : ℕ} {st : Start} {h : List (Moment E)} {s : State E}
             let under : at < lim (st .length) (st .base) v d = omega (arith, le, lim-high d, apart) in
             go-to S6 e S9 (a .held) (s .memory) calm-memory refl refl (omega arith) (noted S6 e) (le, under)
 
+    -- line 10 reads the own index again: moved, back to line 5; else by what the slot held
     pub line10 : stage (a .line) ≡ S10 → {o : Operation E} {p : Reply E} {n : Meaning E} → Way K (s .memory) b o p n → o ≡ Read (own d) → GoalAt (nextAt d S10 (st .length) (a .index) (a .held) p) n (s .trays)
     line10 e w is-read =
         subst (λ q. GoalAt (nextAt d S10 (st .length) (a .index) (a .held) (q .0)) (q .1) (s .trays)) (read-way w (own d) is-read)
@@ -222,6 +235,7 @@ module _ {E : Type 0} {K : ℕ} {st : Start} {h : List (Moment E)} {s : State E}
         go true fresh = by-held (is-fresh (k .0) (noted S10 e) fresh) (outrun d (a .held)) refl
         go false stale = go-to S10 e S5 (a .held) (s .memory) calm-memory refl refl (omega arith) tt tt
 
+    -- line 12 marks the own index, to help the call that waits there
     pub line12 : stage (a .line) ≡ S12 → {o : Operation E} {p : Reply E} {n : Meaning E} → Way K (s .memory) b o p n → o ≡ Mark b (At (own d)) → GoalAt (nextAt d S12 (st .length) (a .index) (a .held) p) n (s .trays)
     line12 e w is-mark =
         let q = mark-way w (At (own d)) is-mark in
@@ -244,6 +258,7 @@ module _ {E : Type 0} {K : ℕ} {st : Start} {h : List (Moment E)} {s : State E}
       | inr k ↦ inr (record { past = k .past; moment = k .moment; place = k .place; since = k .since; gives = k .gives })
     ]
 
+    -- line 16 marks the own index: moved, the call has its place and ends
     pub line16 : stage (a .line) ≡ S16 → {o : Operation E} {p : Reply E} {n : Meaning E} → Way K (s .memory) b o p n → o ≡ Mark b (At (own d)) → GoalAt (nextAt d S16 (st .length) (a .index) (a .held) p) n (s .trays)
     line16 e w is-mark =
         let q = mark-way w (At (own d)) is-mark in
@@ -283,6 +298,7 @@ module _ {E : Type 0} {K : ℕ} {st : Start} {h : List (Moment E)} {s : State E}
             subst (λ q. GoalAt (nextAt d S17 (st .length) (a .index) (a .held) (q .0)) (q .1) (s .trays)) (q .2)
             (go-to S17 e S16 (a .held) (marked (s .memory) b None (q .0)) (remarked K st h s b None (q .0) (q .1)) refl refl (omega arith) (noted S17 e) (k .0, kept-on S16 (k .1)))
 
+    -- a store in the slot: accepted only where it still is as the side wants it
     pub line15 : stage (a .line) ≡ S15 → {o : Operation E} {p : Reply E} {n : Meaning E} → Way K (s .memory) b o p n → o ≡ Store b (InSlot (a .index % st .length) (leftIn d tr)) → GoalAt (nextAt d S15 (st .length) (a .index) (a .held) p) n (s .trays)
     line15 e w is-store = go (store-way w (InSlot (a .index % st .length) (leftIn d tr)) is-store)
       where
@@ -322,6 +338,7 @@ module _ {E : Type 0} {K : ℕ} {st : Start} {h : List (Moment E)} {s : State E}
     tray9 Putting c = s .trays
     tray9 Taking c = found (s .trays) b c
 
+    -- line 9 marks the slot and notes what it holds; a take copies it
     pub line9 : stage (a .line) ≡ S9 → {o : Operation E} {p : Reply E} {n : Meaning E} → Way K (s .memory) b o p n → o ≡ Mark b (Slot (a .index % st .length)) → GoalAt (nextAt d S9 (st .length) (a .index) (a .held) p) n (tray9 d (contentIn p))
     line9 e w is-mark =
         let q = mark-way w (Slot (a .index % st .length)) is-mark in

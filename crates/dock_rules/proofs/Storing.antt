@@ -1,9 +1,9 @@
 -- A store in a slot is accepted: the call waits for its index to move. Assumes nothing.
 use mathlib.Core.Path.{_≡_, refl, sym, ap, subst, _∙_}
 use mathlib.Core.Bool.{Bool, true, false, cond, _&&_}
-use mathlib.Core.List.{List, [], _∷_, _++_}
-use mathlib.Core.Logic.{_⊎_, inl, inr}
-use Prim.Native.Nat.{ℕ, suc, _+_, _%_, _^_, _<_, _≤_}
+use mathlib.Core.List.{List, [], _∷_}
+use mathlib.Core.Logic.{inl}
+use Prim.Native.Nat.{ℕ, suc, _+_, _%_, _<_, _≤_}
 use native.Mathlib.Omega.{arith}
 use lib.Dec.{eqb, ltb}
 use lib.ListN.{length, set, length-set}
@@ -11,7 +11,7 @@ use Rattle.std.specs.Finite.{nth}
 use Rattle.std.specs.Options.{isSome}
 use Rattle.std.specs.declared.option.Option.{Option}
 use Rattle.std.specs.declared.option.Option.the-variants.{Some, None}
-use Rattle.std.proofs.shelf.Tests.{false≢true, true≢false, cond-true, cond-false, eq-eqb}
+use Rattle.std.proofs.shelf.Tests.{false≢true, true≢false}
 use Rattle.slot_memory.specs.declared.Cell.the-variants.{Slot}
 use Rattle.slot_memory.specs.Meaning.{Meaning, index, mark}
 use Rattle.slot_memory.specs.Rules.{InSlot, written}
@@ -20,22 +20,22 @@ use Rattle.dock_rules.specs.declared.BayRecord.the-variants.{UnderWay}
 use Rattle.dock_rules.specs.Words.{Side, Putting, Taking, side, number}
 use Rattle.dock_rules.specs.Lines.{wrap}
 use Rattle.dock_rules.specs.Calls.{Step, Stands as StandsAt, recordOf}
-use Rattle.dock_rules.specs.History.{Moment, Request, PutOf, TakeOf, Running, Goes, when, isStore, sameSide, storedBy, turnedBy, event, indexIn, alterations, running, waiting}
+use Rattle.dock_rules.specs.History.{Moment, Running, Goes, when, isStore, sameSide, storedBy, turnedBy, event, indexIn, alterations, running}
 use Rattle.dock_rules.specs.Law.{Each}
 use Rattle.dock_rules.specs.Runs.{Start, State, momentOf}
 use Rattle.dock_rules.proofs.Sound.{own}
-use Rattle.dock_rules.proofs.Stages.{Stage, S15, S16, stage, lineAt, numberAt, number-is, leftIn}
+use Rattle.dock_rules.proofs.Stages.{S15, S16, stage, lineAt, numberAt, number-is, leftIn}
 use Rattle.dock_rules.proofs.Shared.{Shared, heldBy, tail-slot-held, head-slot-empty, head-slot-held, put-stores, take-stores}
-use Rattle.dock_rules.proofs.Knows.{View, count, wait, lim, queueOf, pos, content, Ready, First, Waits, Counted, Kept, Change, spared}
+use Rattle.dock_rules.proofs.Knows.{View, count, wait, lim, queueOf, pos, Ready, First, spared}
 use Rattle.dock_rules.proofs.Changes.{Sharing, storing, store-change}
 use Rattle.dock_rules.proofs.Invariant.{early, earlyBy, sideOf, TrayOf, viewOf, hits, words, extent, Inv}
 use Rattle.dock_rules.proofs.Bays.{written-mark, written-marks}
-use Rattle.dock_rules.proofs.Moments.{Happens, same-index, put-view, take-view}
+use Rattle.dock_rules.proofs.Moments.{unaltered, put-view, take-view}
 use Rattle.dock_rules.proofs.Finish.{Places, noMore}
-use Rattle.dock_rules.proofs.Moves.{acted, Move, moved}
-use Rattle.dock_rules.proofs.Moving.{asked-put, asked-take}
+use Rattle.dock_rules.proofs.Moves.{acted, moved}
+use Rattle.dock_rules.proofs.Moving.{asked-put}
 use Rattle.dock_rules.proofs.Turns.{has-tray}
-use Rattle.dock_rules.proofs.Acting.{number-at, stood, arrived, attemptAt, number-of, stood-at, runs-to}
+use Rattle.dock_rules.proofs.Acting.{number-at, stood, attemptAt, number-of, stood-at, runs-to}
 
 module _ {E : Type 0} {K : ℕ} {st : Start} {h : List (Moment E)} {s : State E} (i : Inv K st h s) where
   abbrev v : View E
@@ -74,67 +74,65 @@ module _ {E : Type 0} {K : ℕ} {st : Start} {h : List (Moment E)} {s : State E}
       go [] sh = absurd (omega (arith, sh .tail))
       go (x ∷ q) sh = take-stores (st .length) (v .H) (v .T) (v .slots) (v .puts) r x q sh
 
+  -- a take that waits holds the first of the queue, as its slot did
   storing-first : (d : Side) (r : Running E) (tr : Option E) → wait v d ≡ [] → count v d < lim (st .length) (st .base) v d → Ready (st .length) (st .base) v d (count v d) tr → First (st .length) (st .base) (storing (st .length) (st .base) (suc (length h)) d v r (leftIn d tr)) d tr
   storing-first Putting r tr none below rd = tt
   storing-first Taking r tr none below rd =
       let sh = subst (λ tk. Shared (st .length) (v .H) (v .T) (v .slots) (v .puts) tk (queueOf (st .length) (st .base) v)) none (i .inner .shared) in
       sym (head-slot-held (st .length) (v .H) (v .T) (v .slots) (v .puts) (queueOf (st .length) (st .base) v) sh below) ∙ rd
 
+  -- the calls that wait are still each of their side
   storing-asks : (d : Side) (r : Running E) (x : Option E) → sideOf (r .request) ≡ d → (o : Side) → Each (λ w. sideOf (w .request) ≡ o) (wait (storing (st .length) (st .base) (suc (length h)) d v r x) o)
   storing-asks Putting r x asks Putting = (asks, tt)
   storing-asks Putting r x asks Taking = i .inner .asks Taking
   storing-asks Taking r x asks Putting = i .inner .asks Putting
   storing-asks Taking r x asks Taking = (asks, tt)
 
+  -- the call now waits, once
   storing-words : (d : Side) (r : Running E) (x : Option E) → wait v d ≡ [] → (y : ℕ) → words (storing (st .length) (st .base) (suc (length h)) d v r x) y ≡ cond (eqb (r .serial) y) 1 0 + words v y
   storing-words Putting r x none y = omega (arith, ap (hits y) none)
   storing-words Taking r x none y = omega (arith, ap (hits y) none)
 
+  -- one more store is accepted
   storing-extent : (d : Side) (r : Running E) (x : Option E) → wait v d ≡ [] → extent (storing (st .length) (st .base) (suc (length h)) d v r x) ≡ 1 + extent v
   storing-extent Putting r x none = omega (arith, ap length none)
   storing-extent Taking r x none = omega (arith, ap length none)
 
+  -- no index moves
   storing-count : (d : Side) (r : Running E) (x : Option E) (o : Side) → count (storing (st .length) (st .base) (suc (length h)) d v r x) o ≡ count v o
   storing-count Putting r x Putting = refl
   storing-count Putting r x Taking = refl
   storing-count Taking r x Putting = refl
   storing-count Taking r x Taking = refl
 
+  -- the call waits on its side
   storing-wait : (d : Side) (r : Running E) (x : Option E) → wait (storing (st .length) (st .base) (suc (length h)) d v r x) d ≡ r ∷ []
   storing-wait Putting r x = refl
   storing-wait Taking r x = refl
 
+  -- its slot is stored in
   storing-slots : (d : Side) (r : Running E) (x : Option E) → storing (st .length) (st .base) (suc (length h)) d v r x .slots ≡ set (v .slots) (count v d % st .length) x
   storing-slots Putting r x = refl
   storing-slots Taking r x = refl
 
+  -- no call is placed
   storing-ps : (d : Side) (r : Running E) (x : Option E) → storing (st .length) (st .base) (suc (length h)) d v r x .ps ≡ v .ps
   storing-ps Putting r x = refl
   storing-ps Taking r x = refl
 
+  -- the call that stored had read the index as it still is
   storing-unmoved : (d o : Side) (r : Running E) (rs : List (Running E)) → pos (st .length) (st .base) r ≡ count v d → rs ≡ cond (sameSide d o) (r ∷ []) [] → Each (λ x. x .read ≡ alterations (st .base) h o) rs
   storing-unmoved Putting Putting r rs at e = subst (Each (λ x. x .read ≡ alterations (st .base) h Putting)) (sym e) (omega arith, tt)
   storing-unmoved Putting Taking r rs at e = subst (Each (λ x. x .read ≡ alterations (st .base) h Taking)) (sym e) tt
   storing-unmoved Taking Putting r rs at e = subst (Each (λ x. x .read ≡ alterations (st .base) h Putting)) (sym e) tt
   storing-unmoved Taking Taking r rs at e = subst (Each (λ x. x .read ≡ alterations (st .base) h Taking)) (sym e) (omega arith, tt)
 
+  -- the view after the moment is the one with the slot stored in
   storing-view : (d : Side) (m : Moment E) (t : State E) (r : Running E) (x : Option E) → t .memory .slots ≡ set (v .slots) (count v d % st .length) x → indexIn (st .base) (m ∷ h) Putting ≡ index (s .memory) (own Putting) → indexIn (st .base) (m ∷ h) Taking ≡ index (s .memory) (own Taking) → ((o : Side) → storedBy o (event m) (running (st .base) h) ≡ cond (sameSide d o) (r ∷ []) []) → turnedBy (event m) (running (st .base) h) ≡ [] → wait v d ≡ [] → viewOf st (m ∷ h) t ≡ storing (st .length) (st .base) (suc (length h)) d v r x
   storing-view Putting m t r x slots tail head told turned none =
-      put-view st m h s t r x slots none (record {
-        tail = same-index st m h Putting (tail ∙ i .indices Putting);
-        head = same-index st m h Taking (head ∙ i .indices Taking);
-        puts = told Putting;
-        takes = told Taking;
-        turned = turned;
-      })
+      put-view st m h s t r x slots none (unaltered st m h (tail ∙ i .indices Putting) (head ∙ i .indices Taking) (told Putting) (told Taking) turned)
   storing-view Taking m t r x slots tail head told turned none =
-      take-view st m h s t r x slots none (record {
-        tail = same-index st m h Putting (tail ∙ i .indices Putting);
-        head = same-index st m h Taking (head ∙ i .indices Taking);
-        puts = told Putting;
-        takes = told Taking;
-        turned = turned;
-      })
+      take-view st m h s t r x slots none (unaltered st m h (tail ∙ i .indices Putting) (head ∙ i .indices Taking) (told Putting) (told Taking) turned)
 
   module _ (b : ℕ) (inside : b < st .bays) (r : Running E) (a : Attempt) (runs : running (st .base) h b ≡ Some r) (is : recordOf (s .dock) b ≡ UnderWay a) (at15 : stage (a .line) ≡ S15) where
     abbrev d : Side

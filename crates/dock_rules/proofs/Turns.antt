@@ -1,8 +1,7 @@
 -- One bay acts, and the others know what they knew. Assumes nothing.
-use mathlib.Core.Path.{_≡_, refl, sym, ap, subst, _∙_}
-use mathlib.Core.Bool.{Bool, true, false, cond}
-use mathlib.Core.List.{List, [], _∷_}
-use mathlib.Core.Logic.{_⊎_, inl, inr}
+use mathlib.Core.Path.{_≡_, sym, ap, subst}
+use mathlib.Core.Bool.{true, cond}
+use mathlib.Core.Logic.{inl, inr}
 use Prim.Native.Nat.{ℕ, suc, _+_, _<_, _≤_}
 use native.Mathlib.Omega.{arith}
 use lib.Dec.{leb}
@@ -14,10 +13,9 @@ use Rattle.std.specs.declared.option.Option.the-variants.{Some, None}
 use Rattle.std.proofs.shelf.Tests.{cases-eq}
 use Rattle.slot_memory.specs.declared.Cell.{Cell}
 use Rattle.slot_memory.specs.Meaning.{index, mark}
-use Rattle.dock_rules.specs.declared.Attempt.{Attempt}
 use Rattle.dock_rules.specs.declared.BayRecord.{BayRecord}
 use Rattle.dock_rules.specs.declared.BayRecord.the-variants.{Free as Idle, UnderWay, Ended, Owed}
-use Rattle.dock_rules.specs.Words.{Side, Putting, Taking, side}
+use Rattle.dock_rules.specs.Words.{Side, side}
 use Rattle.dock_rules.specs.Lines.{wrap}
 use Rattle.dock_rules.specs.Calls.{recordOf}
 use Rattle.dock_rules.specs.History.{Request, PutOf, TakeOf, Running}
@@ -25,12 +23,13 @@ use Rattle.dock_rules.specs.Law.{Each}
 use Rattle.dock_rules.specs.Runs.{Start, State}
 use Rattle.dock_rules.proofs.Sound.{own}
 use Rattle.dock_rules.proofs.Stages.{stage}
-use Rattle.dock_rules.proofs.Sums.{sumTo, sum-change}
+use Rattle.dock_rules.proofs.Sums.{sum-change}
 use Rattle.dock_rules.proofs.Knows.{View, count, wait, Change, spared, frame}
 use Rattle.dock_rules.proofs.Changes.{Sharing}
-use Rattle.dock_rules.proofs.Invariant.{early, earlyBy, sideOf, TrayOf, Stood, Knows, Static, words, weight, extent, Inner}
+use Rattle.dock_rules.proofs.Invariant.{early, earlyBy, sideOf, TrayOf, Knows, Static, words, weight, extent, Inner}
 
 module _ {E : Type 0} (L base : ℕ) where
+  -- a call under way has something in its tray
   pub has-tray : (q : Request E) (tr : Option E) → TrayOf q tr → isSome tr ≡ true
   has-tray (PutOf e) tr k = ap isSome k
   has-tray TakeOf tr k = k
@@ -78,6 +77,7 @@ pub record Acts {E : Type 0} (K : ℕ) (st : Start) (v u : View E) (now : ℕ) (
   pub roomier : early (recordOf (t .dock) b) + extent u ≤ early (recordOf (s .dock) b) + extent v
 
 module _ {E : Type 0} {K : ℕ} {st : Start} {v u : View E} {now : ℕ} {kill : Option Cell} {s t : State E} {run run′ : ℕ → Option (Running E)} {b : ℕ} (act : Acts K st v u now kill s t run run′ b) where
+  -- a bay that stands by goes on knowing
   others-know : Inner K st v now s run → (c : ℕ) → c < st .bays → (c ≡ b → ⊥) → Knows (st .length) (st .base) u (suc now) (run′ c) (recordOf (t .dock) c) (mark (t .memory) c) (nth (t .trays) c)
   others-know i c lt n =
       let o = act .others c n in
@@ -93,9 +93,11 @@ module _ {E : Type 0} {K : ℕ} {st : Start} {v u : View E} {now : ℕ} {kill : 
       let same = sum-change (st .bays) b (λ c. earlyBy x (recordOf (t .dock) c)) (λ c. earlyBy x (recordOf (s .dock) c)) (act .inside) (λ c n. ap (earlyBy x) (act .others c n .records)) in
       omega arith
 
+  -- so no serial weighs more
   pub weighs-less : (x : ℕ) → weight (st .bays) u t x ≤ weight (st .bays) v s x
   weighs-less x = omega (arith, weighs x, act .lighter x)
 
+  -- what holds within goes on
   pub goes-on : Inner K st v now s run → Inner K st u (suc now) t run′
   goes-on i =
       let same = sum-change (st .bays) b (λ c. early (recordOf (t .dock) c)) (λ c. early (recordOf (s .dock) c)) (act .inside) (λ c n. ap early (act .others c n .records)) in

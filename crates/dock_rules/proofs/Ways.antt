@@ -1,7 +1,7 @@
 -- The ways in which an operation in range can go. Assumes nothing.
-use mathlib.Core.Path.{_≡_, refl, sym, ap, subst, _∙_}
+use mathlib.Core.Path.{_≡_, refl, sym, subst}
 use mathlib.Core.Bool.{Bool, true, false, cond, not, _&&_}
-use Prim.Native.Nat.{ℕ, _<_, _≤_}
+use Prim.Native.Nat.{ℕ, _≤_}
 use native.Mathlib.Omega.{arith}
 use Rattle.std.specs.Orderings.{When}
 use Rattle.std.specs.declared.option.Option.the-variants.{Some, None}
@@ -19,6 +19,7 @@ module _ {E : Type 0} where
     wasAccepted : (w : Write E) (spare : ℕ) → spare ≤ K → live m b (target w) ≡ true → Way K m b (Store b w) (Verdict Accepted) (written m w spare)
     wasRefused : (w : Write E) (spare : ℕ) → spare ≤ K → Way K m b (Store b w) (Verdict Refused) (marked m b None spare)
 
+  -- the same of a reply and a memory as a pair
   abbrev pub WayTo : ℕ → Meaning E → ℕ → Operation E → Reply E × Meaning E → Type 0
   WayTo K m b o x = Way K m b o (x .0) (x .1)
 
@@ -30,11 +31,13 @@ module _ {E : Type 0} where
   InRange m b (Store c w) = (c ≡ b) × (known m b (target w) ≡ true)
 
   module _ (K : ℕ) (m : Meaning E) (b : ℕ) (f : Free) (low : m .spare ≤ K) where
+    -- a store is accepted only live, and may be refused
     store-way : (w : Write E) (l r : Bool) → live m b (target w) ≡ l → f .refuse ≡ r → MayStore K m l (record { refuse = r; spare = f .spare }) → WayTo K m b (Store b w) (cond (l && not r) (Verdict Accepted, written m w (f .spare)) (Verdict Refused, marked m b None (f .spare)))
     store-way w true true on e h = wasRefused w (f .spare) (omega arith)
     store-way w true false on e h = wasAccepted w (f .spare) h on
     store-way w false r on e h = wasRefused w (f .spare) (omega arith)
 
+    -- every operation in range goes one of these ways
     pub way-of : (o : Operation E) → InRange m b o → May K m o f → WayTo K m b o (touched m o f)
     way-of (Clear base) range h = absurd range
     way-of (Read i) range h = wasRead i

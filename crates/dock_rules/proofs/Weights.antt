@@ -1,8 +1,8 @@
 -- A call that waits, or whose slot store is still to come, has no place yet. Assumes nothing.
-use mathlib.Core.Path.{_≡_, refl, sym, ap, subst, _∙_}
+use mathlib.Core.Path.{_≡_, refl, ap, _∙_}
 use mathlib.Core.Bool.{Bool, true, false, cond}
 use mathlib.Core.List.{List, [], _∷_}
-use Prim.Native.Nat.{ℕ, suc, _+_, _<_, _≤_}
+use Prim.Native.Nat.{ℕ, _+_, _<_, _≤_}
 use native.Mathlib.Omega.{arith}
 use lib.Dec.{eqb, ltb, leb}
 use lib.ListN.{length}
@@ -17,12 +17,14 @@ use Rattle.dock_rules.specs.Law.{places}
 use Rattle.dock_rules.specs.Runs.{Start, State}
 use Rattle.dock_rules.proofs.Sums.{sum-has}
 use Rattle.dock_rules.proofs.Knows.{View, wait}
-use Rattle.dock_rules.proofs.Invariant.{early, earlyBy, hits, words, weight}
+use Rattle.dock_rules.proofs.Invariant.{earlyBy, hits, weight}
 
+-- what a test weighs is at most one
 pub at-most-one : (t : Bool) → cond t 1 0 ≤ 1
 at-most-one true = omega arith
 at-most-one false = omega arith
 
+-- a call before its slot store weighs one
 pub early-own : (a : Attempt) → ltb (number (a .line)) 16 ≡ true → earlyBy (a .serial) (UnderWay a) ≡ 1
 early-own a e = cond-true (eqb (a .serial) (a .serial)) _ 0 (eq-eqb _ _ refl) ∙ cond-true (ltb (number (a .line)) 16) 1 0 e
 
@@ -35,10 +37,12 @@ module _ {E : Type 0} where
       go true = omega arith
       go false = omega arith
 
+  -- a call is among those that it heads
   pub hits-own : (w : Running E) (ws : List (Running E)) → 0 < hits (w .serial) (w ∷ ws)
   hits-own w ws = omega (arith, cond-true {A = ℕ} (eqb (w .serial) (w .serial)) 1 0 (eq-eqb _ _ refl))
 
   module _ (st : Start) (v : View E) (s : State E) (once : (x : ℕ) → weight (st .bays) v s x ≤ cond (leb x (s .dock .started)) 1 0) where
+    -- a call that waits has no place yet, since it weighs one already
     pub waits-weigh : (d : Side) (w : Running E) → wait v d ≡ w ∷ [] → (places (w .serial) (v .ps) ≡ []) × (0 < weight (st .bays) v s (w .serial))
     waits-weigh d w e =
         let one = once (w .serial) in
@@ -50,6 +54,7 @@ module _ {E : Type 0} where
         hits-wait Putting e = omega (arith, ap (hits (w .serial)) e, hits-own w [])
         hits-wait Taking e = omega (arith, ap (hits (w .serial)) e, hits-own w [])
 
+    -- nor has a call before its slot store, and its serial has been started
     pub early-weighs : (b : ℕ) (a : Attempt) → b < st .bays → recordOf (s .dock) b ≡ UnderWay a → ltb (number (a .line)) 16 ≡ true → (places (a .serial) (v .ps) ≡ []) × (0 < weight (st .bays) v s (a .serial)) × (a .serial ≤ s .dock .started)
     early-weighs b a inside is e =
         let x = a .serial in
