@@ -1,13 +1,9 @@
 -- What a call's contract takes from the theorem: a call that does as defined continues every run, lawfully. Assumes nothing.
-use mathlib.Core.Path.{_≡_, refl, sym, ap, subst, _∙_}
-use mathlib.Core.List.{List, [], _∷_}
+use mathlib.Core.Path.{_≡_, sym, ap, subst, _∙_}
 use Prim.Native.Nat.{ℕ, _^_, _<_}
-use Rattle.slot_memory.specs.Meaning.{Meaning}
 use Rattle.slot_memory.specs.Rules.{Free}
-use Rattle.dock_rules.specs.declared.DockState.{DockState}
-use Rattle.dock_rules.specs.Calls.{World, Call, Open, Answer, Opened, does, MayCall}
-use Rattle.dock_rules.specs.History.{Moment}
-use Rattle.dock_rules.specs.Runs.{Start, State, Handed, carried, momentOf, Reached, justOpened, oneMore, Lawful, GoesOn, Begins}
+use Rattle.dock_rules.specs.Calls.{World, Call, Open, Answer, does, MayCall}
+use Rattle.dock_rules.specs.Runs.{justOpened, oneMore, GoesOn, Begins}
 use Rattle.dock_rules.proofs.Theorem.{every-run}
 
 module _ {E : Type 0} (K : ℕ) (w : World E) where
