@@ -1,0 +1,4 @@
+pub mod Doing
+pub mod Running
+pub mod Ring
+pub mod Lawful
