@@ -20,7 +20,7 @@ mod tests;
 
 /// One call, and the answer that is due.
 #[derive(Clone, Copy)]
-pub enum Act<E: Copy> {
+pub(crate) enum Act<E: Copy> {
     Open(Bay, u32, u32, Result<(), Refusal>),
     Put(Bay, E, Result<u32, Refusal>),
     Take(Bay, Result<u32, Refusal>),
@@ -41,7 +41,7 @@ fn make<M: SlotMemory>(
 }
 
 /// Makes the calls in their order on a new dock, and names the first whose answer is another.
-pub fn run<M: SlotMemory + Drop>(
+pub(crate) fn run<M: SlotMemory + Drop>(
     memory: M,
     trays: &mut [M::Element],
     acts: &[Act<M::Element>],
