@@ -14,7 +14,7 @@ mod tests;
 
 /// One operation, and the reply that is due.
 #[derive(Clone, Copy)]
-pub enum Step<E: Copy> {
+pub(crate) enum Step<E: Copy> {
     Clear(u32),
     Read(Index, u32),
     Slot(Bay, u32, Option<E>),
@@ -46,7 +46,7 @@ where
 }
 
 /// Takes the steps in their order, and names the first whose reply is another.
-pub fn run<M: SlotMemory>(memory: &mut M, steps: &[Step<M::Element>]) -> Result<(), Fail>
+pub(crate) fn run<M: SlotMemory>(memory: &mut M, steps: &[Step<M::Element>]) -> Result<(), Fail>
 where
     M::Element: PartialEq<M::Element> + Debug,
 {
