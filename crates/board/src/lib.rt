@@ -1,4 +1,6 @@
 // A board whose kind is chosen while a program runs: one of the slot memories, behind the same interface.
+#![tactic(auto)]
+
 ghost use Rattle.std.specs.Prelude.{◌≡◌};
 ghost use Rattle.mark_memory.specs.Exact.{fresh};
 ghost use Rattle.board.specs.Kinds.{fresh_kind, kind_of, meaning_of, limit_of, bounded, Plays};

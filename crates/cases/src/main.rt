@@ -1,5 +1,7 @@
 // Runs schedules that are kept with their outputs, which were worked out independently of this code, and
 // tells of each whether the output is the one that is kept.
+#![tactic(auto)]
+
 ghost use Rattle.std.specs.Prelude.{◌≡◌, None};
 
 use schedule::run_text;

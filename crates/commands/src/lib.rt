@@ -1,4 +1,6 @@
 // The text of a schedule: its lines, words and numbers, and the command that each line gives.
+#![tactic(auto)]
+
 ghost use Rattle.std.specs.Prelude.{◌≡◌};
 
 use slot_memory::Bay;

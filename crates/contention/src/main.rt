@@ -1,4 +1,6 @@
 // Two bays contend for a slot and for an index, over each of the two boards, told in print.
+#![tactic(auto)]
+
 use mark_memory::MarkMemory;
 use row_memory::RowMemory;
 use slot_memory::{Bay, Index, SlotMemory, Stored};

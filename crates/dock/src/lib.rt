@@ -1,5 +1,7 @@
 // The dock: bays that put elements into one shared ring of slots and take elements out of it, one line
 // of a call at a time, over any slot memory. What each call does is stated in `specs/Does.antt`.
+#![tactic(auto)]
+
 ghost use Rattle.std.specs.Prelude.{◌≡◌, ◌≤◌, length};
 
 use dock_rules::{DockState, Line, Outcome};

@@ -68,8 +68,8 @@ module _ {E : Type 0} (K n life base : ℕ) (m : Meaning E) (trays : List E) (sp
             long = length-replicate (length m.slots) None;
             tail = omega arith;
             room = omega arith;
-            one_put_lem = omega arith;
-            one_take_lem = omega arith;
+            one_put = omega arith;
+            one_take = omega arith;
             first = omega arith;
             ring = ring_empty (length m.slots) (base + 0);
           };

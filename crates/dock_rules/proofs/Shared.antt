@@ -33,8 +33,8 @@ module _ {E : Type 0} where
     pub long : length slots ≡ L
     pub tail : T ≡ H + length q
     pub room : length q + length pt ≤ L
-    pub one_put_lem : length pt ≤ 1
-    pub one_take_lem : length tk ≤ 1
+    pub one_put : length pt ≤ 1
+    pub one_take : length tk ≤ 1
     pub first : length tk ≤ length q
     pub ring : Ring L H slots (contents pt tk q)
 
@@ -91,8 +91,8 @@ module _ {E : Type 0} where
           long = s.long;
           tail = omega (arith, s.tail);
           room = omega (arith, s.room);
-          one_put_lem = omega arith;
-          one_take_lem = s.one_take_lem;
+          one_put = omega arith;
+          one_take = s.one_take;
           first = omega (arith, s.first);
           ring = subst (Ring L H slots) (sym same) s.ring;
         }
@@ -107,8 +107,8 @@ module _ {E : Type 0} where
           long = s.long;
           tail = omega (arith, s.tail);
           room = omega (arith, s.room);
-          one_put_lem = s.one_put_lem;
-          one_take_lem = omega arith;
+          one_put = s.one_put;
+          one_take = omega arith;
           first = omega arith;
           ring = ring_next L H slots (map Some q ++ back pt) s.some s.ring (omega (arith, s.room, length_back pt));
         }
@@ -128,8 +128,8 @@ module _ {E : Type 0} where
           long = length-set slots (T % L) (Some e) ∙ s.long;
           tail = s.tail;
           room = omega (arith, s.tail);
-          one_put_lem = omega arith;
-          one_take_lem = s.one_take_lem;
+          one_put = omega arith;
+          one_take = s.one_take;
           first = s.first;
           ring = subst (λ i. Ring L H (set slots (i % L) (Some e)) (contents (r ∷ []) tk q)) here (subst (Ring L H (set slots ((H + length (contents [] tk q)) % L) (Some e))) same pushed);
         }
@@ -143,8 +143,8 @@ module _ {E : Type 0} where
           long = length-set slots (H % L) None ∙ s.long;
           tail = s.tail;
           room = s.room;
-          one_put_lem = s.one_put_lem;
-          one_take_lem = omega arith;
+          one_put = s.one_put;
+          one_take = omega arith;
           first = omega arith;
           ring = subst (λ i. Ring L H (set slots (i % L) None) (contents pt (r ∷ []) (x ∷ q))) (add-zero H) emptied;
         }

@@ -86,8 +86,8 @@ module _ {E : Type 0} {K : ℕ} {st : Start} {h : List (Moment E)} {s : State E}
 
   -- at most one call waits on a side
   one_waits : (o : Side) → length (wait v o) ≤ 1
-  one_waits Putting = i.inner.shared.one-put
-  one_waits Taking = i.inner.shared.one-take
+  one_waits Putting = i.inner.shared.one_put
+  one_waits Taking = i.inner.shared.one_take
 
   -- the slot at the index is not as the side wants it only where a call of that side waits
   busy_behind : (o : Side) → count v o < lim st.length st.base v o → outrun o (is_some (content st.length st.base v (count v o))) ≡ true → Behind v o

@@ -69,7 +69,7 @@ module _ {E : Type 0} {K : ℕ} {st : Start} {h : List (Moment E)} {s : State E}
         slots = static.slots;
         some = static.some;
         spare = static.spare;
-        one = elim [ Putting ↦ i.inner.shared.one-put | Taking ↦ i.inner.shared.one-take ];
+        one = elim [ Putting ↦ i.inner.shared.one_put | Taking ↦ i.inner.shared.one_take ];
         indices = i.indices;
         tied = λ b lt. tied_from st.length st.base (view_of st h s) (length h) (running st.base h b) (record_of s.dock b) (mark s.memory b) (slice_get s.trays b) (i.inner.knows b lt);
         behind = λ b lt a is n on. behind_is (side a.line) ((at_line_13 b lt a is n).1.1 on).1;

@@ -1,5 +1,7 @@
 // The rules of the dock: what callers see, as enums with all their cases; the dock's own record; and
 // in `specs/` the lines, the calls, runs of calls and the law that every run obeys.
+#![tactic(auto)]
+
 ghost use Rattle.std.specs.Prelude.{◌≡◌, Some};
 ghost use Rattle.dock_rules.specs.Runs.{EveryRun};
 ghost use Rattle.dock_rules.specs.Words.{label, outcome_word, abandoned_word, refusal_number, refusal_word};

@@ -1,5 +1,7 @@
 // Tests of the dock by behaviour: each is a table of calls with the answers that the rules give, run
 // over both memories, on words and on visits.
+#![tactic(auto)]
+
 use dock::Dock;
 use dock_rules::{Refusal, Stepped};
 use slot_memory::{Bay, SlotMemory};

@@ -1,4 +1,6 @@
 // Reads a schedule from standard input, runs it on a dock, and prints what each line was answered.
+#![tactic(auto)]
+
 use schedule::run_text;
 use std::io;
 use std::io::Read;

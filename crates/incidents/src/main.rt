@@ -1,5 +1,7 @@
 // Two incidents at docks of patrol readers, played with visits over the mark memory and told in print:
 // each call with what the dock answered, and the book at the end.
+#![tactic(auto)]
+
 use desk::{Closed, Desk, Noted, VisitDock};
 use dock::{Book, Dock};
 use dock_rules::{Line, Outcome, Refusal, Stepped};

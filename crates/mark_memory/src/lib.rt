@@ -1,5 +1,7 @@
 // The mark memory: a slot memory that accepts every live store. It keeps the slots that its caller
 // lends and notes for each bay the cell that the bay's mark is on.
+#![tactic(auto)]
+
 use slot_memory::{Cell, Lent};
 
 mod methods;

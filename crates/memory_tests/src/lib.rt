@@ -1,5 +1,7 @@
 // Tests of the slot memories by behaviour: each is a table of operations with the replies that the
 // rules give, run over both memories, on words and on visits.
+#![tactic(auto)]
+
 use slot_memory::{Bay, Index, SlotMemory, Stored};
 use std::fmt::Debug;
 use std::process::Abort;

@@ -1,5 +1,7 @@
 // The row memory: a slot memory whose cells lie in rows, and where an accepted store disturbs the
 // marks on its neighbours. A store on a disturbed mark is refused although it is live.
+#![tactic(auto)]
+
 use slot_memory::{Cell, Lent};
 
 mod methods;

@@ -1,4 +1,6 @@
 // A schedule's text run on a dock: each line is a command, and each is answered by a line.
+#![tactic(auto)]
+
 ghost use Rattle.std.specs.Prelude.{Some};
 ghost use Rattle.schedule.specs.Responses.{response_text};
 

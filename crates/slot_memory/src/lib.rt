@@ -1,5 +1,7 @@
 // The slot memory: the interface between a dock and the board that holds its slots and its two
 // indices. A memory is told apart from another only by the rules that `specs/Rules.antt` states.
+#![tactic(auto)]
+
 ghost use Rattle.std.specs.Prelude.{◌≡◌, ℕ, ◌≤◌, length, Some, None};
 ghost use Rattle.slot_memory.specs.Meaning.{Meaning, most_spare, same_cell};
 ghost use Rattle.slot_memory.specs.Rules.{InSlot, InIndex, Operation, Clear, Read, Mark, Store, Reply, Done, Number, Content, Verdict, Keeps};

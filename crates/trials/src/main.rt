@@ -1,5 +1,7 @@
 // Ten worked examples of the dock's lines and calls, and the limits of an open, run on the dock and told
 // in print: for each what it shows, and what the dock answered.
+#![tactic(auto)]
+
 use desk::play;
 use std::io;
 use table::{TRIALS, Trial};

@@ -1,4 +1,6 @@
 // A visit: what a patrol reader notes when a guard passes a checkpoint.
+#![tactic(auto)]
+
 ghost use Rattle.std.specs.Prelude.{Some};
 ghost use Rattle.visit.specs.Written.{written};
 
