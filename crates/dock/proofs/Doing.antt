@@ -19,7 +19,7 @@ use Rattle.dock.specs.declared.Collected.{Collected}
 use Rattle.dock.specs.declared.Collected.TheVariants as collected
 use Rattle.dock.specs.declared.Left.{Left}
 use Rattle.dock.specs.declared.Left.TheVariants as left
-use Rattle.dock.specs.Answered.{collect_answer, abandon_answer, Handed, CollectedFor, LeftFor}
+use Rattle.dock.specs.Answered.{collect_answer, abandon_answer, Out, CollectedFor, LeftFor, CollectedOut, LeftOut}
 use Rattle.dock.specs.Does.{Does}
 
 -- free results for a call that uses none
@@ -88,30 +88,38 @@ collecting_answers b s Stored = refl
 collecting_answers b s Empty = refl
 collecting_answers b s Taken = refl
 
-leaving-answers : (b s : ℕ) (x : Abandoned) → ◌≡◌ {A = Answer × BayRecord} (abandon_answer (Ok (leaving b s x).1), (leaving b s x).0) (rules.Left x, after_left s x)
-leaving-answers b s away.Untouched = refl
-leaving-answers b s away.Stored = refl
-leaving-answers b s away.Taken = refl
+leaving_answers : (b s : ℕ) (x : Abandoned) → ◌≡◌ {A = Answer × BayRecord} (abandon_answer (Ok (leaving b s x).1), (leaving b s x).0) (rules.Left x, after_left s x)
+leaving_answers b s away.Untouched = refl
+leaving_answers b s away.Stored = refl
+leaving_answers b s away.Taken = refl
 
-module _ (d : DockState) (b s : ℕ) (isOpen : d.opened ≡ true) (within : b < d.bays) (few : d.bays ≤ 16) (table : length d.records ≡ 16) where
-  -- a bay that notes its receipt holds it
-  handed : Handed (with_record d b (Owed s)) b s (record { bay = b; serial = s })
-  handed =
-      record {
-        is = refl;
-        out = record { opened = isOpen; bay = within; owed = get_or-set_same d.records b (Owed s) Idle (omega arith) };
-      }
-
-  pub collecting_for : (o : Outcome) → CollectedFor (with_record d b (collecting b s o).0) b s (Ok (collecting b s o).1)
+module _ (b s : ℕ) where
+  pub collecting_for : (o : Outcome) → CollectedFor b s (Ok (collecting b s o).1)
   collecting_for Full = tt
   collecting_for Stored = tt
   collecting_for Empty = tt
-  collecting_for Taken = handed
+  collecting_for Taken = refl
 
-  pub leaving_for : (x : Abandoned) → LeftFor (with_record d b (leaving b s x).0) b s (Ok (leaving b s x).1)
+  pub leaving_for : (x : Abandoned) → LeftFor b s (Ok (leaving b s x).1)
   leaving_for away.Untouched = tt
   leaving_for away.Stored = tt
-  leaving_for away.Taken = handed
+  leaving_for away.Taken = refl
+
+module _ (d : DockState) (b s : ℕ) (is_open : d.opened ≡ true) (within : b < d.bays) (few : d.bays ≤ 16) (table : length d.records ≡ 16) where
+  -- a bay that notes its receipt holds it
+  handed : Out (with_record d b (Owed s)) (record { bay = b; serial = s })
+  handed = record { opened = is_open; bay = within; owed = get_or-set_same d.records b (Owed s) Idle (omega arith) }
+
+  pub collecting_out : (o : Outcome) → CollectedOut (with_record d b (collecting b s o).0) (Ok (collecting b s o).1)
+  collecting_out Full = tt
+  collecting_out Stored = tt
+  collecting_out Empty = tt
+  collecting_out Taken = handed
+
+  pub leaving_out : (x : Abandoned) → LeftOut (with_record d b (leaving b s x).0) (Ok (leaving b s x).1)
+  leaving_out away.Untouched = tt
+  leaving_out away.Stored = tt
+  leaving_out away.Taken = handed
 
 module _ {E : Type 0} (K : ℕ) (w : World E) (b s : ℕ) where
   -- the bay's record is as given, and the answer
@@ -123,7 +131,7 @@ module _ {E : Type 0} (K : ℕ) (w : World E) (b s : ℕ) where
       granted_dry K w (Collect b s) _ _ refl none
       (ap noted (collecting_answers b s o) ∙ ap (λ h. collect w b s (outcome h)) (sym e))
 
-  pub leaving-does : (a : Attempt) → refusal w (Abandon b s) ≡ None → record_of w.dock b ≡ UnderWay a → Does K w (Abandon b s) (abandon_answer (Ok (leaving b s (left_at a.line)).1)) (with_dock w (with_record w.dock b (leaving b s (left_at a.line)).0))
-  leaving-does a none e =
+  pub leaving_does : (a : Attempt) → refusal w (Abandon b s) ≡ None → record_of w.dock b ≡ UnderWay a → Does K w (Abandon b s) (abandon_answer (Ok (leaving b s (left_at a.line)).1)) (with_dock w (with_record w.dock b (leaving b s (left_at a.line)).0))
+  leaving_does a none e =
       granted_dry K w (Abandon b s) _ _ refl none
-      (ap noted (leaving-answers b s (left_at a.line)) ∙ ap (λ h. abandon w b s (attempt h)) (sym e))
+      (ap noted (leaving_answers b s (left_at a.line)) ∙ ap (λ h. abandon w b s (attempt h)) (sym e))

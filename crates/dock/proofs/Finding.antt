@@ -21,7 +21,7 @@ first_more (t ∷ ts) us r e = go t.0 e (first_more ts us r)
     go true h more = h
     go false h more = more h
 
-module _ {M E : Type 0} (of : Ghosts M E) (d : Dock M E) (b s : ℕ) where
+module _ {M E : Type 0} (of : Ghosts M E) (d : Dock M E of) (b s : ℕ) where
   -- no such call
 
   pub no_collect : (r : Refusal) → FoundOf d.state b s (Err r) → DoesAlone of d (Collect b s) (Refused r) d

@@ -44,29 +44,29 @@ abbrev pub book_of : {E : Type 0} → held.Book E → Book E
 book_of k = record { row = k.row.now; entered = k.entered }
 
 module _ {M E : Type 0} (of : Ghosts M E) where
-  abbrev pub world : Dock M E → List E → Book E → World E
+  abbrev pub world : Dock M E of → List E → Book E → World E
   world d t k = record { dock = d.state; memory = of.meaning d.memory; trays = t; book = k }
 
   -- a call that is handed neither trays nor a book
-  abbrev pub DoesAlone : Dock M E → Call E → Answer → Dock M E → Type 0
+  abbrev pub DoesAlone : Dock M E of → Call E → Answer → Dock M E of → Type 0
   DoesAlone d c a e = (t : List E) (k : Book E) → Does (of.limit d.memory) (world d t k) c a (world e t k)
 
   -- a call that is handed trays
-  abbrev pub DoesOver : Dock M E → List E → Call E → Answer → Dock M E → List E → Type 0
+  abbrev pub DoesOver : Dock M E of → List E → Call E → Answer → Dock M E of → List E → Type 0
   DoesOver d t c a e u = (k : Book E) → Does (of.limit d.memory) (world d t k) c a (world e u k)
 
-  abbrev pub CarriesAlone : Dock M E → Call E → Answer → Dock M E → Type 0
+  abbrev pub CarriesAlone : Dock M E of → Call E → Answer → Dock M E of → Type 0
   CarriesAlone d c a e = (t : List E) (k : Book E) → Carries (of.limit d.memory) (world d t k) c a (world e t k)
 
-  abbrev pub CarriesOver : Dock M E → List E → Call E → Answer → Dock M E → List E → Type 0
+  abbrev pub CarriesOver : Dock M E of → List E → Call E → Answer → Dock M E of → List E → Type 0
   CarriesOver d t c a e u = (k : Book E) → Carries (of.limit d.memory) (world d t k) c a (world e u k)
 
-  abbrev pub StartsAlone : Dock M E → ℕ → ℕ → ℕ → Answer → Dock M E → Type 0
+  abbrev pub StartsAlone : Dock M E of → ℕ → ℕ → ℕ → Answer → Dock M E of → Type 0
   StartsAlone d n life base a e = (t : List E) (k : Book E) → Starts (of.limit d.memory) (world d t k) n life base a (world e t k)
 
   -- a step whose line's one operation was answered by the memory in its own way: answer and world come
   -- from that reply
-  pub record Ran (d : Dock M E) (t : List E) (b : ℕ) (s : Stepped) (e : Dock M E) (u : List E) : Type 0 where
+  pub record Ran (d : Dock M E of) (t : List E) (b : ℕ) (s : Stepped) (e : Dock M E of) (u : List E) : Type 0 where
     pub call : Attempt
     pub under : record_of d.state b ≡ UnderWay call
     pub reply : Reply E

@@ -4,16 +4,16 @@ use Rattle.commands.specs.Commands.{spelled}
 use Rattle.commands.proofs.Spelling.{no_verb}
 use Rattle.commands.proofs.parse.named.Goals as goal
 
-pub returns-in-default : goal.returns-in-default
-returns-in-default c =
+pub returns-in_default : goal.returns-in_default
+returns-in_default c =
     no_verb c.args.word.now
     (λ v.
     elim v as (λ v. c.args.word.now ≡ spelled v → ⊥) [
-      | Marks ↦ c.in-default.not-marks
-      | Rows ↦ c.in-default.not-rows
-      | Put ↦ c.in-default.not-put
-      | Take ↦ c.in-default.not-take
-      | Step ↦ c.in-default.not_step
-      | Collect ↦ c.in-default.not-collect
-      | Leave ↦ c.in-default.not-leave
+      | Marks ↦ c.in_default.not-marks
+      | Rows ↦ c.in_default.not-rows
+      | Put ↦ c.in_default.not-put
+      | Take ↦ c.in_default.not-take
+      | Step ↦ c.in_default.not_step
+      | Collect ↦ c.in_default.not-collect
+      | Leave ↦ c.in_default.not-leave
     ])

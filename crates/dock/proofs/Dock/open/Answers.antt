@@ -6,8 +6,8 @@ use Rattle.dock.proofs.Dock.open.Goals as goal
 pub returns-then-self : goal.returns-then-self
 returns-then-self g c = record { does = λ t k. turned_down _ _ _ _ (search rules); law = λ t k. starts c.ranges.base.fits (turned_down _ _ _ _ (search rules)); exact = refl; fixed = refl; stays = λ x o. o }
 
-pub returns-then-not-fits-ring : goal.returns-then-not-fits-ring
-returns-then-not-fits-ring g c = record { does = λ t k. turned_down _ _ _ _ (search rules); law = λ t k. starts c.ranges.base.fits (turned_down _ _ _ _ (search rules)); exact = refl; fixed = refl; stays = λ x o. o }
+pub returns-then-not-fits_ring : goal.returns-then-not-fits_ring
+returns-then-not-fits_ring g c = record { does = λ t k. turned_down _ _ _ _ (search rules); law = λ t k. starts c.ranges.base.fits (turned_down _ _ _ _ (search rules)); exact = refl; fixed = refl; stays = λ x o. o }
 
 pub returns-then-bays-eq0 : goal.returns-then-bays-eq0
 returns-then-bays-eq0 g c = record { does = λ t k. turned_down _ _ _ _ (search rules); law = λ t k. starts c.ranges.base.fits (turned_down _ _ _ _ (search rules)); exact = refl; fixed = refl; stays = λ x o. o }

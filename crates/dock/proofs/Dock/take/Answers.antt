@@ -11,8 +11,8 @@ returns-then-not-self g c = record { does = λ t k. turned_down _ _ _ _ (search 
 pub returns-then-bay-self : goal.returns-then-bay-self
 returns-then-bay-self g c = record { does = λ t k. turned_down _ _ _ _ (search rules); law = λ t k. carries (turned_down _ _ _ _ (search rules)); kept = refl; stays = λ x o. o }
 
-pub returns-then-not-is-free : goal.returns-then-not-is-free
-returns-then-not-is-free g c = record { does = λ t k. turned_down _ _ _ _ (search rules); law = λ t k. carries (turned_down _ _ _ _ (search rules)); kept = refl; stays = λ x o. o }
+pub returns-then-not-is_free : goal.returns-then-not-is_free
+returns-then-not-is_free g c = record { does = λ t k. turned_down _ _ _ _ (search rules); law = λ t k. carries (turned_down _ _ _ _ (search rules)); kept = refl; stays = λ x o. o }
 
 pub returns-then-self : goal.returns-then-self
 returns-then-self g c = record { does = λ t k. turned_down _ _ _ _ (search rules); law = λ t k. carries (turned_down _ _ _ _ (search rules)); kept = refl; stays = λ x o. o }

@@ -16,7 +16,7 @@ pub loop-read-preserved : goal.loop-read-preserved
 loop-read-preserved c =
     let line = line_read (lines_left c.loop-read.schedule) _ c.in-Some.read c.in-Some.ensures in
     let more = ap length line.1 in
-    let printed = c.in-ok-print.ensures in
+    let printed = c.in_ok-print.ensures in
     (omega (arith, printed.number, more), goes_on line.0 c.in-Some.read c.heed-response.result c.loop-read.invariant.1 line.1 line.2 c.heed-response.ensures printed.out printed.number)
 
 pub loop-read-smaller : goal.loop-read-smaller
@@ -27,5 +27,5 @@ loop-read-smaller c =
 
 pub returns : goal.returns
 returns c =
-    let none = all_read (lines_left c.loop-read.schedule) _ c.in-default.ensures in
+    let none = all_read (lines_left c.loop-read.schedule) _ c.in_default.ensures in
     record { lines = none.1; through = comes_to_end c.loop-read.invariant.1 none.0 }

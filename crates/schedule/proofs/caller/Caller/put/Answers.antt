@@ -12,4 +12,4 @@ returns c =
     let s = both c.args.dock.now c.args.self.now in
     let k = book_of s.book in
     let back = with_items_is s.trays c.put.new.trays (search rules) in
-    made_dry s _ (Put c.args.bay c.args.word) _ (ap (λ x. world memory s.dock x k) c.as-mut-slice.ensures.value) (ap (λ x. world memory c.put.new.self x k) (sym back)) (c.put.ensures.law k) refl tt (c.put.ensures.does k) (ap kind_of c.put.ensures.kept)
+    made_dry s _ (Put c.args.bay c.args.word) _ (ap (λ x. world memory s.dock x k) c.as_mut_slice.ensures.value) (ap (λ x. world memory c.put.new.self x k) (sym back)) (c.put.ensures.law k) refl tt (c.put.ensures.does k) (ap kind_of c.put.ensures.kept)

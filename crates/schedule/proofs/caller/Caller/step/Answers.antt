@@ -8,5 +8,5 @@ pub returns : goal.returns
 returns c =
     let s = both c.args.dock.now c.args.self.now in
     let back = with_items_is s.trays c.step.new.trays (search rules) in
-    made-step s _ c.args.bay refl refl {r = c.step.result} c.as-mut-slice.ensures.value (sym back)
+    made-step s _ c.args.bay refl refl {r = c.step.result} c.as_mut_slice.ensures.value (sym back)
     (record { does = c.step.ensures.does; law = c.step.ensures.law; exact = c.step.ensures.exact })
