@@ -1,6 +1,6 @@
 -- A receipt that is out stays out until it is spent: no call writes the record of a bay that holds one, but enter
 -- and waive. Assumes nothing.
-use Rattle.std.proofs.Common.{◌≡◌, ℕ, true, false, set, None, sym, refl, ap, ◌∙◌, subst, arith, get_or-set_other}
+use Rattle.std.proofs.Common.{◌≡◌, ℕ, true, None, sym, refl, ap, ◌∙◌, subst, arith, get_or-set_other}
 use Rattle.dock_rules.specs.declared.Line.{Line}
 use Rattle.dock_rules.specs.declared.BayRecord.{BayRecord}
 use Rattle.dock_rules.specs.declared.BayRecord.TheVariants.{Free, UnderWay, Ended, Owed}

@@ -10,7 +10,7 @@ use Rattle.dock_rules.specs.declared.Outcome.TheVariants.{Full, Stored, Empty, T
 use Rattle.dock_rules.specs.Words.{Side, Putting, Taking, side, number}
 use Rattle.dock_rules.specs.Calls.{Step, End, record_of}
 use Rattle.dock_rules.specs.History.{Moment, TakeOf, Running, Placed, place, ends, element_of, Stops, when, is_turned, same_side, turned_by, ended_by, alterations, running}
-use Rattle.dock_rules.specs.Law.{Each, plain, queue, gives, places}
+use Rattle.dock_rules.specs.Law.{Each, plain, queue, places}
 use Rattle.dock_rules.specs.Runs.{Start, State, moment_of}
 use Rattle.dock_rules.proofs.Sound.{own}
 use Rattle.dock_rules.proofs.Stages.{S6, stage, number_at, number_is, turned_away, carried_out}

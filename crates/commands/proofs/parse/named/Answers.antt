@@ -13,7 +13,7 @@ returns-in_default c =
       | Rows ↦ c.in_default.not-rows
       | Put ↦ c.in_default.not-put
       | Take ↦ c.in_default.not-take
-      | Step ↦ c.in_default.not_step
+      | Step ↦ c.in_default.not-step
       | Collect ↦ c.in_default.not-collect
       | Leave ↦ c.in_default.not-leave
     ])
