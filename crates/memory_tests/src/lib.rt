@@ -1,74 +1,8 @@
 // Tests of the slot memories by behaviour: each is a table of operations with the replies that the
-// rules give, run over both memories, on words and on visits.
+// rules give, run over both memories, on words and on visits. There is nothing here but tests.
 #![tactic(auto)]
 
-use slot_memory::{Bay, Index, SlotMemory, Stored};
-use std::fmt::Debug;
-use std::process::Abort;
-use std::test::Fail;
-
+#[cfg(test)]
+mod table;
 #[cfg(test)]
 mod tests;
-
-/// One operation, and the reply that is due.
-#[derive(Clone, Copy)]
-pub(crate) enum Step<E: Copy> {
-    Clear(u32),
-    Read(Index, u32),
-    Slot(Bay, u32, Option<E>),
-    Index(Bay, Index, u32),
-    Fill(Bay, u32, E, Stored),
-    Empty(Bay, u32, Stored),
-    Store(Bay, Index, u32, Stored),
-}
-
-fn take<M: SlotMemory>(rt: &impl Abort, memory: &mut M, step: Step<M::Element>) -> Result<(), Fail>
-where
-    M::Element: PartialEq + Debug,
-{
-    match step {
-        Step::Clear(base) => {
-            memory.clear(base);
-            Ok(())
-        }
-        Step::Read(index, due) => {
-            assert_eq!(rt; memory.read(index), due);
-            Ok(())
-        },
-        Step::Slot(bay, slot, due) => {
-            assert_eq!(rt; memory.mark_slot(bay, slot), due);
-            Ok(())
-        },
-        Step::Index(bay, index, due) => {
-            assert_eq!(rt; memory.mark_index(bay, index), due);
-            Ok(())
-        },
-        Step::Fill(bay, slot, element, due) => {
-            assert_eq!(rt; memory.fill_slot(bay, slot, element), due);
-            Ok(())
-        },
-        Step::Empty(bay, slot, due) => {
-            assert_eq!(rt; memory.empty_slot(bay, slot), due);
-            Ok(())
-        },
-        Step::Store(bay, index, number, due) => {
-            assert_eq!(rt; memory.store_index(bay, index, number), due);
-            Ok(())
-        },
-    }
-}
-
-/// Takes the steps in their order, and names the first whose reply is another.
-pub(crate) fn run<M: SlotMemory>(
-    rt: &impl Abort,
-    memory: &mut M,
-    steps: &[Step<M::Element>],
-) -> Result<(), Fail>
-where
-    M::Element: PartialEq + Debug,
-{
-    for (i, step) in steps.iter().enumerate() {
-        take(rt, memory, *step).note(format_args!("step {i}"))?;
-    }
-    Ok(())
-}

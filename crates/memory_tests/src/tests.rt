@@ -1,6 +1,6 @@
 // The tables.
-use crate::Step::*;
-use crate::{Step, run};
+use crate::table::Step::*;
+use crate::table::{Step, run};
 use mark_memory::MarkMemory;
 use row_memory::RowMemory;
 use slot_memory::Index::*;
@@ -103,25 +103,25 @@ fn neighbours<E: Copy>(a: E, balked: slot_memory::Stored) -> [Step<E>; 24] {
 }
 
 #[test]
-fn one_slot(rt: HostRuntime) -> Result<(), Fail> {
+fn one_slot(rt: HostRuntime) {
     let mut words = [Some(77u32); 1];
     run(
         &rt,
         &mut MarkMemory::new(&mut words),
         &common(0, 1, 5u32, 6),
-    )?;
-    run(&rt, &mut RowMemory::new(&mut words), &common(0, 1, 5u32, 6))?;
+    );
+    run(&rt, &mut RowMemory::new(&mut words), &common(0, 1, 5u32, 6));
     let mut visits = [Some(LATE); 1];
     run(
         &rt,
         &mut MarkMemory::new(&mut visits),
         &common(0, 1, EARLY, LATE),
-    )?;
+    );
     run(
         &rt,
         &mut RowMemory::new(&mut visits),
         &common(0, 1, EARLY, LATE),
-    )
+    );
 }
 
 #[test]
@@ -131,23 +131,24 @@ fn most_slots(rt: HostRuntime) -> Result<(), Fail> {
         &rt,
         &mut MarkMemory::new(words.as_mut_slice()),
         &common(1024, 1025, 5u32, 6),
-    )?;
+    );
     run(
         &rt,
         &mut RowMemory::new(words.as_mut_slice()),
         &common(1024, 1025, 5u32, 6),
-    )?;
+    );
     let mut visits = vec![in rt.alloc(); Some(LATE); 1025]?;
     run(
         &rt,
         &mut MarkMemory::new(visits.as_mut_slice()),
         &common(1024, 1025, EARLY, LATE),
-    )?;
+    );
     run(
         &rt,
         &mut RowMemory::new(visits.as_mut_slice()),
         &common(1024, 1025, EARLY, LATE),
-    )
+    );
+    Ok(())
 }
 
 // How many of so many lent slots each memory uses.
@@ -175,27 +176,27 @@ fn lengths(rt: HostRuntime) -> Result<(), Fail> {
 }
 
 #[test]
-fn slots_in_rows(rt: HostRuntime) -> Result<(), Fail> {
+fn slots_in_rows(rt: HostRuntime) {
     let mut words = [None; 8];
     run(
         &rt,
         &mut MarkMemory::new(&mut words),
         &neighbours(5u32, Accepted),
-    )?;
+    );
     run(
         &rt,
         &mut RowMemory::new(&mut words),
         &neighbours(5u32, Refused),
-    )?;
+    );
     let mut visits = [None; 8];
     run(
         &rt,
         &mut MarkMemory::new(&mut visits),
         &neighbours(EARLY, Accepted),
-    )?;
+    );
     run(
         &rt,
         &mut RowMemory::new(&mut visits),
         &neighbours(EARLY, Refused),
-    )
+    );
 }
