@@ -1,61 +1,8 @@
 // Tests of the dock by behaviour: each is a table of calls with the answers that the rules give, run
-// over both memories, on words and on visits.
+// over both memories, on words and on visits. There is nothing here but tests.
 #![tactic(auto)]
 
-use dock::Dock;
-use dock_rules::{Refusal, Stepped};
-use slot_memory::{Bay, SlotMemory};
-use std::process::Abort;
-use std::test::Fail;
-
+#[cfg(test)]
+mod table;
 #[cfg(test)]
 mod tests;
-
-/// One call, and the answer that is due.
-#[derive(Clone, Copy)]
-pub(crate) enum Act<E: Copy> {
-    Open(Bay, u32, u32, Result<(), Refusal>),
-    Put(Bay, E, Result<u32, Refusal>),
-    Take(Bay, Result<u32, Refusal>),
-    Step(Bay, Result<Stepped, Refusal>),
-}
-
-fn make<M: SlotMemory>(
-    rt: &impl Abort,
-    dock: &mut Dock<M>,
-    trays: &mut [M::Element],
-    act: Act<M::Element>,
-) -> Result<(), Fail> {
-    match act {
-        Act::Open(bays, lifetime, base, due) => {
-            assert_eq!(rt; dock.open(bays, lifetime, base), due);
-            Ok(())
-        },
-        Act::Put(bay, element, due) => {
-            assert_eq!(rt; dock.put(bay, element, trays), due);
-            Ok(())
-        },
-        Act::Take(bay, due) => {
-            assert_eq!(rt; dock.take(bay), due);
-            Ok(())
-        },
-        Act::Step(bay, due) => {
-            assert_eq!(rt; dock.step(bay, trays), due);
-            Ok(())
-        },
-    }
-}
-
-/// Makes the calls in their order on a new dock, and names the first whose answer is another.
-pub(crate) fn run<M: SlotMemory + Drop>(
-    rt: &impl Abort,
-    memory: M,
-    trays: &mut [M::Element],
-    acts: &[Act<M::Element>],
-) -> Result<(), Fail> {
-    let mut dock = Dock::new(memory);
-    for (i, act) in acts.iter().enumerate() {
-        make(rt, &mut dock, trays, *act).note(format_args!("call {i}"))?;
-    }
-    Ok(())
-}

@@ -1,12 +1,11 @@
 // The tables.
-use crate::Act::*;
-use crate::{Act, run};
+use crate::table::Act::*;
+use crate::table::{Act, run};
 use dock_rules::Line::*;
 use dock_rules::Stepped::*;
 use dock_rules::{Line, Outcome, Refusal};
 use mark_memory::MarkMemory;
 use row_memory::RowMemory;
-use std::test::Fail;
 use visit::Visit;
 
 const TOP: u32 = 4294967295;
@@ -86,7 +85,7 @@ fn rounds<E: Copy>(a: E, b: E) -> [Act<E>; 40] {
 }
 
 #[test]
-fn one_slot(rt: HostRuntime) -> Result<(), Fail> {
+fn one_slot(rt: HostRuntime) {
     let mut words = [Some(77u32); 1];
     let mut trays = [0u32; 4];
     run(
@@ -94,13 +93,13 @@ fn one_slot(rt: HostRuntime) -> Result<(), Fail> {
         MarkMemory::new(&mut words),
         &mut trays,
         &rounds(5u32, 6),
-    )?;
+    );
     run(
         &rt,
         RowMemory::new(&mut words),
         &mut trays,
         &rounds(5u32, 6),
-    )?;
+    );
     let mut visits = [Some(LATE); 1];
     let mut held = [LATE; 4];
     run(
@@ -108,13 +107,13 @@ fn one_slot(rt: HostRuntime) -> Result<(), Fail> {
         MarkMemory::new(&mut visits),
         &mut held,
         &rounds(EARLY, LATE),
-    )?;
+    );
     run(
         &rt,
         RowMemory::new(&mut visits),
         &mut held,
         &rounds(EARLY, LATE),
-    )
+    );
 }
 
 // What a dock answers before it is open, whatever its memory.
@@ -133,28 +132,28 @@ fn shut<E: Copy>(a: E) -> [Act<E>; 9] {
 }
 
 #[test]
-fn refused_while_shut(rt: HostRuntime) -> Result<(), Fail> {
+fn refused_while_shut(rt: HostRuntime) {
     let mut words = [Some(77u32); 8];
     let mut trays = [0u32; 4];
-    run(&rt, MarkMemory::new(&mut words), &mut trays, &shut(5u32))?;
-    run(&rt, RowMemory::new(&mut words), &mut trays, &shut(5u32))
+    run(&rt, MarkMemory::new(&mut words), &mut trays, &shut(5u32));
+    run(&rt, RowMemory::new(&mut words), &mut trays, &shut(5u32));
 }
 
 #[test]
-fn lengths_refused(rt: HostRuntime) -> Result<(), Fail> {
+fn lengths_refused(rt: HostRuntime) {
     let refused: [Act<u32>; 2] = [
         Open(0, 0, 7, Err(Refusal::Length)),
         Take(0, Err(Refusal::Shut)),
     ];
     let mut trays = [0u32; 1];
     let mut three = [Some(77u32); 3];
-    run(&rt, MarkMemory::new(&mut three), &mut trays, &refused)?;
+    run(&rt, MarkMemory::new(&mut three), &mut trays, &refused);
     let mut none: [Option<u32>; 0] = [];
-    run(&rt, MarkMemory::new(&mut none), &mut trays, &refused)
+    run(&rt, MarkMemory::new(&mut none), &mut trays, &refused);
 }
 
 #[test]
-fn trays_counted(rt: HostRuntime) -> Result<(), Fail> {
+fn trays_counted(rt: HostRuntime) {
     // four trays are too few for five bays, and the reason goes before the bay's
     let few: [Act<u32>; 4] = [
         Open(5, 1, 7, Ok(())),
@@ -169,12 +168,12 @@ fn trays_counted(rt: HostRuntime) -> Result<(), Fail> {
     ];
     let mut words = [None; 2];
     let mut trays = [0u32; 4];
-    run(&rt, MarkMemory::new(&mut words), &mut trays, &few)?;
-    run(&rt, RowMemory::new(&mut words), &mut trays, &many)
+    run(&rt, MarkMemory::new(&mut words), &mut trays, &few);
+    run(&rt, RowMemory::new(&mut words), &mut trays, &many);
 }
 
 #[test]
-fn worn_out(rt: HostRuntime) -> Result<(), Fail> {
+fn worn_out(rt: HostRuntime) {
     let acts: [Act<u32>; 6] = [
         Open(2, 1, 7, Ok(())),
         Step(1, Err(Refusal::Idle)),
@@ -186,6 +185,6 @@ fn worn_out(rt: HostRuntime) -> Result<(), Fail> {
     ];
     let mut words = [None; 2];
     let mut trays = [0u32; 2];
-    run(&rt, MarkMemory::new(&mut words), &mut trays, &acts)?;
-    run(&rt, RowMemory::new(&mut words), &mut trays, &acts)
+    run(&rt, MarkMemory::new(&mut words), &mut trays, &acts);
+    run(&rt, RowMemory::new(&mut words), &mut trays, &acts);
 }
