@@ -112,7 +112,7 @@ stood-answers (At l) = refl
 stood-answers (Ended o) = refl
 
 -- a granted step
-pub ran : {K : ℕ} {d e : Dock (Board ℕ) ℕ} {t u : List ℕ} {b : ℕ} {s : Stepped} (k : Book ℕ) → Does K (world memory d t k) (Step b) (stood s) (world memory e u k) → Ran memory d t b s e u → ◌≡◌ {A = Answer × Game ℕ} (stood s, game (kind_of e.memory) (world memory e u k)) (called (game (kind_of d.memory) (world memory d t k)) (Step b))
+pub ran : {K : ℕ} {d e : Dock (Board ℕ) ℕ memory} {t u : List ℕ} {b : ℕ} {s : Stepped} (k : Book ℕ) → Does K (world memory d t k) (Step b) (stood s) (world memory e u k) → Ran memory d t b s e u → ◌≡◌ {A = Answer × Game ℕ} (stood s, game (kind_of e.memory) (world memory e u k)) (called (game (kind_of d.memory) (world memory d t k)) (Step b))
 ran {K} {d} {e} {t} {u} {b} {s} k does run =
     let w = world memory d t k in
     let kind = kind_of d.memory in
@@ -126,7 +126,7 @@ ran {K} {d} {e} {t} {u} {b} {s} k does run =
     first ∙ sym second ∙ sym (ap (λ r. turn kind w (Step b) r (touches w (Step b))) none)
 
 -- a granted open
-pub cleared : {K : ℕ} (d e : Dock (Board ℕ) ℕ) {t : List ℕ} {n life base : ℕ} (k : Book ℕ) → Does K (world memory d t k) (Open n life base) Opened (world memory e t k) → Plays d.memory (Clear base) Done e.memory → ◌≡◌ {A = Answer × Game ℕ} (Opened, game (kind_of e.memory) (world memory e t k)) (called (game (kind_of d.memory) (world memory d t k)) (Open n life base))
+pub cleared : {K : ℕ} (d e : Dock (Board ℕ) ℕ memory) {t : List ℕ} {n life base : ℕ} (k : Book ℕ) → Does K (world memory d t k) (Open n life base) Opened (world memory e t k) → Plays d.memory (Clear base) Done e.memory → ◌≡◌ {A = Answer × Game ℕ} (Opened, game (kind_of e.memory) (world memory e t k)) (called (game (kind_of d.memory) (world memory d t k)) (Open n life base))
 cleared d e {t} {n} {life} {base} k told plays =
     let w = world memory d t k in
     let none = not_turned told refl in

@@ -190,22 +190,22 @@ module _ (s t : Session) (b : ℕ) where
     made-step {r} {x} {y} ex ey facts = own_trays_lem r (subst (λ x. Stepping r x (vec_items t.trays)) ex (subst (λ y. Stepping r x y) ey facts))
 
 -- a dock and its caller, of whom only the serials changed
-pub same_game : (d : Dock (Board ℕ) ℕ) {t u : Vec ℕ Global} {b c : held.Book ℕ} → t ≡ u → b ≡ c → ◌≡◌ {A = Game ℕ} (record { kind = kind_of d.memory; world = world memory d (vec_items t) (book_of b) }) (record { kind = kind_of d.memory; world = world memory d (vec_items u) (book_of c) })
+pub same_game : (d : Dock (Board ℕ) ℕ memory) {t u : Vec ℕ Global} {b c : held.Book ℕ} → t ≡ u → b ≡ c → ◌≡◌ {A = Game ℕ} (record { kind = kind_of d.memory; world = world memory d (vec_items t) (book_of b) }) (record { kind = kind_of d.memory; world = world memory d (vec_items u) (book_of c) })
 same_game d trays book = λ i. record { kind = kind_of d.memory; world = world memory d (vec_items (trays i)) (book_of (book i)) }
 
 -- the session with its dock after a call
-abbrev pub with_dock : Session → Dock (Board ℕ) ℕ → Session
+abbrev pub with_dock : Session → Dock (Board ℕ) ℕ memory → Session
 with_dock s e = record { dock = e; trays = s.trays; book = s.book; last = s.last }
 
 -- a call that is handed neither trays nor a book, and does not touch the memory
-pub made_alone : (s : Session) (e : Dock (Board ℕ) ℕ) (c : Call ℕ) (a : Answer) → Dry c → DoesAlone memory s.dock c a e → CarriesAlone memory s.dock c a e → e.memory ≡ s.dock.memory → Made s c a (with_dock s e)
+pub made_alone : (s : Session) (e : Dock (Board ℕ) ℕ memory) (c : Call ℕ) (a : Answer) → Dry c → DoesAlone memory s.dock c a e → CarriesAlone memory s.dock c a e → e.memory ≡ s.dock.memory → Made s c a (with_dock s e)
 made_alone s e c a is-dry does law kept =
     let t = vec_items s.trays in
     let k = book_of s.book in
     made_dry s (with_dock s e) c a refl refl (law t k) refl is-dry (does t k) (ap kind_of kept)
 
 -- an open, with the session's own trays and book
-module _ (s : Session) (e : Dock (Board ℕ) ℕ) (n life base : ℕ) where
+module _ (s : Session) (e : Dock (Board ℕ) ℕ memory) (n life base : ℕ) where
   pub made_open : StartsAlone memory s.dock n life base Opened e → DoesAlone memory s.dock (Open n life base) Opened e → Plays s.dock.memory (Clear base) Done e.memory → Made s (Open n life base) Opened (with_dock s e)
   made_open law does plays =
       record {

@@ -61,7 +61,7 @@ module _ (s t : Session) (n : ℕ) where
         (subst (λ y. Through y (i + 1) (At desk) ls p j NotOpen ms) out (subst (λ k. Through x k (At desk) ls p j NotOpen ms) number (subst (λ y. Through x m (At desk) ls p j NotOpen y) (sym none) through)))
 
 -- a dock just made over a board just made, with its caller, is the shut game
-pub fresh-game : (d : Dock (Board ℕ) ℕ) (b : Board ℕ) (kind : BoardKind) (t x : List ℕ) (row : List (Option ℕ)) (slots n : ℕ) → d.memory ≡ b → d.state ≡ shut_state → kind_of b ≡ fresh_kind kind → meaning_of b ≡ fresh row → row ≡ replicate slots None → t ≡ replicate n 0 → x ≡ replicate book_length 0 → ◌≡◌ {A = Game ℕ} (record { kind = kind_of d.memory; world = world memory d t (record { row = x; entered = 0 }) }) (shut_game (fresh_kind kind) slots n)
+pub fresh-game : (d : Dock (Board ℕ) ℕ memory) (b : Board ℕ) (kind : BoardKind) (t x : List ℕ) (row : List (Option ℕ)) (slots n : ℕ) → d.memory ≡ b → d.state ≡ shut_state → kind_of b ≡ fresh_kind kind → meaning_of b ≡ fresh row → row ≡ replicate slots None → t ≡ replicate n 0 → x ≡ replicate book_length 0 → ◌≡◌ {A = Game ℕ} (record { kind = kind_of d.memory; world = world memory d t (record { row = x; entered = 0 }) }) (shut_game (fresh_kind kind) slots n)
 fresh-game d b kind t x row slots n holds state is means lent trays book =
     let same : meaning_of d.memory ≡ fresh (replicate slots None) = ap meaning_of holds ∙ means ∙ ap fresh lent in
     λ i. record { kind = (ap kind_of holds ∙ is) i; world = record { dock = state i; memory = same i; trays = trays i; book = record { row = book i; entered = 0 } } }

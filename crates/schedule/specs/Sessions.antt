@@ -20,12 +20,12 @@ use Rattle.schedule.specs.Output.{Stage, NotOpen, At, Driven, line_text, printed
 
 -- a dock, and what its caller keeps
 pub record Session : Type 0 where
-  pub dock : Dock (Board ℕ) ℕ
+  pub dock : Dock (Board ℕ) ℕ memory
   pub trays : Vec ℕ Global
   pub book : held.Book ℕ
   pub last : List ℕ
 
-abbrev pub both : Dock (Board ℕ) ℕ → Caller → Session
+abbrev pub both : Dock (Board ℕ) ℕ memory → Caller → Session
 both d k = record { dock = d; trays = k.trays; book = k.book; last = k.last }
 
 abbrev pub game_of : Session → Game ℕ

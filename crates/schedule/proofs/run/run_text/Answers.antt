@@ -6,7 +6,7 @@ use Rattle.schedule.proofs.run.run_text.Goals as goal
 pub heed_shut-requires : goal.heed_shut-requires
 heed_shut-requires c =
     let line = line_read (lines_left c.loop-read.schedule) _ c.in-Some.read c.in-Some.ensures in
-    omega (arith, ap length line.1, c.loop-read.invariant.numbers, lines_few c.args.text.now, c.if-text-gt-MOST-TEXT.false)
+    omega (arith, ap length line.1, c.loop-read.invariant.numbers, lines_few c.args.text.now, c.if-text-gt-MOST_TEXT.false)
 
 pub loop-read-smaller : goal.loop-read-smaller
 loop-read-smaller c =

@@ -29,8 +29,8 @@ pub returns-in-Taken : goal.returns-in-Taken
 returns-in-Taken c =
     let told = c.in-Ok.ensures in
     let made = made_alone (both c.args.dock.now c.args.self.now) c.collect.new.self (Collect c.args.bay c.serial-serial.result) _ tt told.does told.law told.kept in
-    let handed = subst (λ x. CollectedFor c.collect.new.self.state c.args.bay c.serial-serial.result (Ok x)) c.in-Taken.is told.receipt in
-    let settles = subst (λ x. Moved (λ d. settled d x.bay x.serial) (with_dock (both c.args.dock.now c.args.self.now) c.collect.new.self) (both c.taken.new.dock c.taken.new.self)) handed.is c.taken.ensures.moved in
+    let handed = subst (λ x. CollectedFor c.args.bay c.serial-serial.result (Ok x)) c.in-Taken.is told.receipt in
+    let settles = subst (λ x. Moved (λ d. settled d x.bay x.serial) (with_dock (both c.args.dock.now c.args.self.now) c.collect.new.self) (both c.taken.new.dock c.taken.new.self)) handed c.taken.ensures.moved in
     finishes-taken (both c.args.dock.now c.args.self.now) _ (Collect c.args.bay) c.args.bay c.serial-serial.result c.serial-serial.ensures made (c.taken.ensures.response ∙ ap (λ x. response_to (collect_answer (Ok x)) (get_or (vec_items c.args.self.now.trays) c.args.bay 0)) (sym c.in-Taken.is)) (ap (λ x. is_taken (collect_answer (Ok x))) c.in-Taken.is) settles
 
 pub returns-in-Err : goal.returns-in-Err

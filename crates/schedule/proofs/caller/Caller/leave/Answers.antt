@@ -23,8 +23,8 @@ pub returns-in-Taken : goal.returns-in-Taken
 returns-in-Taken c =
     let told = c.in-Ok.ensures in
     let made = made_alone (both c.args.dock.now c.args.self.now) c.abandon.new.self (Abandon c.args.bay c.serial-serial.result) _ tt told.does told.law told.kept in
-    let handed = subst (λ x. LeftFor c.abandon.new.self.state c.args.bay c.serial-serial.result (Ok x)) c.in-Taken.is told.receipt in
-    let settles = subst (λ x. Moved (λ d. settled d x.bay x.serial) (with_dock (both c.args.dock.now c.args.self.now) c.abandon.new.self) (both c.taken.new.dock c.taken.new.self)) handed.is c.taken.ensures.moved in
+    let handed = subst (λ x. LeftFor c.args.bay c.serial-serial.result (Ok x)) c.in-Taken.is told.receipt in
+    let settles = subst (λ x. Moved (λ d. settled d x.bay x.serial) (with_dock (both c.args.dock.now c.args.self.now) c.abandon.new.self) (both c.taken.new.dock c.taken.new.self)) handed c.taken.ensures.moved in
     finishes-taken (both c.args.dock.now c.args.self.now) _ (Abandon c.args.bay) c.args.bay c.serial-serial.result c.serial-serial.ensures made (c.taken.ensures.response ∙ ap (λ x. response_to (abandon_answer (Ok x)) (get_or (vec_items c.args.self.now.trays) c.args.bay 0)) (sym c.in-Taken.is)) (ap (λ x. is_taken (abandon_answer (Ok x))) c.in-Taken.is) settles
 
 pub returns-in-Err : goal.returns-in-Err

@@ -17,4 +17,4 @@ returns-in-Ok-waive c =
     let k = book_of c.enter.new.book in
     let enters = made_dry s m (Enter c.args.receipt.bay c.args.receipt.serial) (Refused c.in-Err.field-0-0) (ap (λ x. world memory s.dock x (book_of s.book)) c.as_slice.ensures.value) (ap (λ x. world memory c.enter.new.self x k) c.as_slice.ensures.value) entered.law refl tt entered.does (ap kind_of entered.kept) in
     let waives = made_dry m t (Waive c.in-Err.back.bay c.in-Err.back.serial) Settled refl refl (waived.law (vec_items s.trays) k) refl tt (waived.does (vec_items s.trays) k) (ap kind_of waived.kept) in
-    settles_waived enters c.args.receipt.bay c.args.receipt.serial refl refl (subst (λ x. Made m (Waive x.bay x.serial) Settled t) entered.receipt.0 waives)
+    settles_waived enters c.args.receipt.bay c.args.receipt.serial refl refl (subst (λ x. Made m (Waive x.bay x.serial) Settled t) entered.receipt waives)
