@@ -4,7 +4,7 @@
 --   game    the board's kind, and the world: dock, memory, trays and book
 --
 -- Assumes nothing.
-use Rattle.std.specs.Prelude.{ℕ, Some, None, Option}
+use Rattle.std.specs.Prelude.{Some, None, Option}
 use Rattle.slot_memory.specs.Meaning.{Meaning}
 use Rattle.slot_memory.specs.Rules.{Operation, Free}
 use Rattle.mark_memory.specs.Exact.{accepting}

@@ -1,18 +1,17 @@
 -- A call on a dock over a board of a known kind answers and leaves what `called` says. Assumes nothing.
 use Rattle.std.proofs.Common.{◌≡◌, ℕ, true, false, List, Some, None, Option, sym, refl, ap, ◌∙◌, arith}
 use Rattle.slot_memory.specs.Meaning.{Meaning}
-use Rattle.slot_memory.specs.Rules.{Operation, Clear, Reply, Done, Free, touched}
+use Rattle.slot_memory.specs.Rules.{Operation, Clear, Done, Free, touched}
 use Rattle.board.specs.declared.Board.{Board}
-use Rattle.board.specs.Kinds.{Kind, OnMarks, OnRows, most, kind_of, meaning_of, takes, kind_after, memory, Plays}
+use Rattle.board.specs.Kinds.{Kind, OnMarks, OnRows, most, kind_of, takes, kind_after, memory, Plays}
 use Rattle.board.specs.Game.{Game, made, taken, kind_then, called}
 use Rattle.dock_rules.specs.declared.Attempt.{Attempt}
-use Rattle.dock_rules.specs.declared.BayRecord.TheVariants.{UnderWay}
 use Rattle.dock_rules.specs.declared.Outcome.{Outcome}
 use Rattle.dock_rules.specs.declared.Refusal.{Refusal}
 use Rattle.dock_rules.specs.declared.Stepped.{Stepped}
 use Rattle.dock_rules.specs.declared.Stepped.TheVariants.{At, Ended}
 use Rattle.dock_rules.specs.Lines.{Next, To, Ends}
-use Rattle.dock_rules.specs.Calls.{World, Book, Call, Open, Put, Take, Step, Collect, Abandon, Enter, Waive, Answer, Refused, Opened, record_of, attempt, outcome, refusal, answer_of, stepped, step, collect, abandon, granted, answered, does, touches, attempted, next_operation, opened}
+use Rattle.dock_rules.specs.Calls.{World, Book, Call, Open, Put, Take, Step, Collect, Abandon, Enter, Waive, Answer, Opened, record_of, attempt, outcome, refusal, answer_of, stepped, step, collect, abandon, granted, answered, does, touches, attempted, next_operation, opened}
 use Rattle.dock.specs.declared.Dock.{Dock}
 use Rattle.dock.specs.Answered.{stood}
 use Rattle.dock.specs.Does.{Does, Ran, world}

@@ -4,7 +4,7 @@ use Rattle.commands.specs.Text.{lines_of, glued, line_feed}
 use Rattle.commands.specs.Commands.{Read, command_of, next_command}
 use Rattle.schedule.specs.declared.Response.{Response}
 use Rattle.schedule.specs.Desks.{Desk, heeded}
-use Rattle.schedule.specs.Output.{Stage, NotOpen, At, Driven, DrivenAt, Lawfully, after, responds, line_text, printed}
+use Rattle.schedule.specs.Output.{Stage, NotOpen, At, Driven, DrivenAt, after, responds, line_text, printed}
 use Rattle.schedule.specs.Sessions.{Session, Stands, Turned, Through, Opens}
 
 -- which line was read

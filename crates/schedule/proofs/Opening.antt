@@ -1,11 +1,11 @@
 -- The line of an open. Assumes nothing.
-use Rattle.std.proofs.Common.{◌≡◌, ℕ, ◌+◌, List, [], ◌∷◌, ◌++◌, length, replicate, IfOk, None, Ok, Err, Option, Result, sym, refl, ap, ◌∙◌, subst}
+use Rattle.std.proofs.Common.{◌≡◌, ℕ, ◌+◌, List, [], ◌++◌, length, replicate, IfOk, None, Ok, Err, Option, Result, sym, refl, ap, ◌∙◌, subst}
 use Rattle.slot_memory.specs.Meaning.{bays}
 use Rattle.mark_memory.specs.Exact.{fresh}
 use Rattle.board.specs.declared.Board.{Board}
 use Rattle.board.specs.declared.BoardKind.{BoardKind}
 use Rattle.board.specs.Kinds.{kind_of, fresh_kind, meaning_of, memory, most}
-use Rattle.board.specs.Game.{Game, makes, called}
+use Rattle.board.specs.Game.{Game, makes}
 use Rattle.dock_rules.specs.declared.Refusal.{Refusal}
 use Rattle.dock_rules.specs.Calls.{Open, Answer, Refused, Opened}
 use Rattle.dock_rules.specs.Runs.{Start, Reached, Lawful, Begins, carrying, opening}
@@ -13,8 +13,8 @@ use Rattle.dock.specs.declared.Dock.{Dock}
 use Rattle.dock.specs.Does.{shut_state, world}
 use Rattle.schedule.specs.declared.Response.TheVariants as say
 use Rattle.schedule.specs.Desks.{Desk, lifetime, base}
-use Rattle.schedule.specs.Output.{Stage, NotOpen, At, Driven, book_length, shut_game, from_start, opens, opened_on, line_text}
-use Rattle.schedule.specs.Sessions.{Session, game_of, Stands, Made, Through, Ends, Opens}
+use Rattle.schedule.specs.Output.{NotOpen, At, Driven, book_length, shut_game, from_start, opens, opened_on, line_text}
+use Rattle.schedule.specs.Sessions.{Session, game_of, Made, Through, Ends, Opens}
 use Rattle.schedule.proofs.Calling.{most-after}
 use Rattle.schedule.proofs.Lines.{nothing_read}
 

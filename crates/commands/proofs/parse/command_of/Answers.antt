@@ -1,4 +1,4 @@
-use Rattle.std.proofs.Common.{◌≡◌, sym, ap, ◌∙◌, inl, inr, ⊎_elim}
+use Rattle.std.proofs.Common.{sym, ap, ◌∙◌, ⊎_elim}
 use Rattle.commands.specs.Tokens.{lexeme, words_left}
 use Rattle.commands.specs.Commands.{led}
 use Rattle.commands.proofs.Spelling.{led_by, command_by}

@@ -1,4 +1,4 @@
-use Rattle.std.proofs.Common.{◌≡◌, ◌+◌, length, refl, ap, arith, rules}
+use Rattle.std.proofs.Common.{length, refl, ap, arith}
 use Rattle.commands.specs.Commands.{lines_left}
 use Rattle.schedule.proofs.Lines.{line_read, all_read, not_gone, goes_on, comes_to_end}
 use Rattle.schedule.proofs.run.heed_all.Goals as goal

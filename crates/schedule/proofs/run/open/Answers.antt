@@ -1,4 +1,4 @@
-use Rattle.std.proofs.Common.{vec_items, string_bytes, refl, rules}
+use Rattle.std.proofs.Common.{vec_items, string_bytes}
 use Rattle.dock.specs.Does.{book_of}
 use Rattle.schedule.specs.Sessions.{both}
 use Rattle.schedule.proofs.Moving.{made_open, made_refused}

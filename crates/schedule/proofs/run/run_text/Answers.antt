@@ -1,4 +1,4 @@
-use Rattle.std.proofs.Common.{length, ap, arith, rules}
+use Rattle.std.proofs.Common.{length, ap, arith}
 use Rattle.commands.specs.Commands.{lines_left}
 use Rattle.schedule.proofs.Lines.{line_read, shut-line, lines_few}
 use Rattle.schedule.proofs.run.run_text.Goals as goal

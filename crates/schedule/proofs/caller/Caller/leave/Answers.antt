@@ -1,4 +1,4 @@
-use Rattle.std.proofs.Common.{◌≡◌, get_or, Ok, vec_items, sym, refl, ap, ◌∙◌, subst}
+use Rattle.std.proofs.Common.{get_or, Ok, vec_items, sym, refl, ap, ◌∙◌, subst}
 use Rattle.dock_rules.specs.Calls.{Abandon}
 use Rattle.dock.specs.Answered.{abandon_answer, LeftFor}
 use Rattle.schedule.specs.Responses.{response_to, is_taken}

@@ -1,4 +1,4 @@
-use Rattle.std.proofs.Common.{vec_items, refl, ap, subst, rules}
+use Rattle.std.proofs.Common.{vec_items, refl, ap, subst}
 use Rattle.board.specs.Kinds.{kind_of, memory}
 use Rattle.dock_rules.specs.Calls.{Enter, Waive, Settled, Refused}
 use Rattle.dock.specs.Does.{book_of, world}
