@@ -2,7 +2,7 @@
 use Rattle.std.specs.Prelude.{◌≡◌, ℕ, Some, None, Option}
 use Rattle.dock_rules.specs.declared.DockState.{DockState}
 use Rattle.dock.specs.declared.Receipt.{Receipt}
-use Rattle.dock.specs.Answered.{Out, Handed}
+use Rattle.dock.specs.Answered.{Out}
 
 -- it is out at the dock
 abbrev pub InHand : DockState → Option Receipt → Type 0
@@ -10,6 +10,10 @@ InHand d None = Unit {0}
 InHand d (Some x) = Out d x
 
 -- it is for this bay and serial, and is out at the dock
+pub record Handed (d : DockState) (b s : ℕ) (x : Receipt) : Type 0 where
+  pub is : x ≡ record { bay = b; serial = s }
+  pub out : Out d x
+
 abbrev pub HandedOver : DockState → ℕ → ℕ → Option Receipt → Type 0
 HandedOver d b s None = Unit {0}
 HandedOver d b s (Some x) = Handed d b s x

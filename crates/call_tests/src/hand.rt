@@ -2,11 +2,11 @@
 ghost use Rattle.dock.specs.Answered.{Out, Stays, StaysBut};
 ghost use Rattle.call_tests.specs.Hand.{BackInHand, HandedOver, InHand, New, Parted, Spent};
 
+use crate::judge::Judge;
 use dock::{Book, Collected, Dock, Left, Receipt};
 use dock_rules::{Abandoned, Outcome, Refusal};
 use slot_memory::{Bay, SlotMemory};
 use std::process::Abort;
-use std::test::Fail;
 
 // Spends a receipt that is out.
 pub(crate) fn waive<M: SlotMemory>(dock: &mut Dock<M>, receipt: Receipt)
@@ -15,7 +15,7 @@ pub(crate) fn waive<M: SlotMemory>(dock: &mut Dock<M>, receipt: Receipt)
 {
     match dock.waive(receipt) {
         Ok(()) => {}
-        Err(_) => unreachable(),
+        Err(_) => unreachable!(),
     }
 }
 
@@ -120,7 +120,7 @@ pub(crate) fn try_waive<M: SlotMemory>(
 // Collects a receipt at home and offers it to another dock, to be entered and to be waived. Both are
 // refused there, and it is waived at home.
 pub(crate) fn offer<M: SlotMemory, N: SlotMemory>(
-    rt: &impl Abort,
+    judge: &Judge<'_, impl Abort>,
     home: &mut Dock<M>,
     bay: Bay,
     serial: u32,
@@ -128,11 +128,11 @@ pub(crate) fn offer<M: SlotMemory, N: SlotMemory>(
     trays: &[N::Element],
     book: &mut Book<'_, N::Element>,
     due: (Refusal, Refusal),
-) -> Result<(), Fail> {
+) {
     let (ended, hand) = collect(home, bay, serial);
+    judge.same(ended, Ok(Outcome::Taken));
     let Some(receipt) = hand else {
-        assert_eq!(rt; ended, Ok(Outcome::Taken));
-        return Ok(());
+        return;
     };
     let (entered, hand) = enter(away, receipt, trays, book);
     let (waived, hand) = match hand {
@@ -140,32 +140,31 @@ pub(crate) fn offer<M: SlotMemory, N: SlotMemory>(
         None => (Ok(()), None),
     };
     release(home, hand);
-    assert_eq!(rt; entered, Err(due.0));
-    assert_eq!(rt; waived, Err(due.1));
-    Ok(())
+    judge.same(entered, Err(due.0));
+    judge.same(waived, Err(due.1));
 }
 
 // Collects a receipt of one bay and serial at each of two docks, and spends each at the other dock: the
 // first is entered with the other's trays, the second is waived.
 pub(crate) fn exchange<M: SlotMemory, N: SlotMemory>(
-    rt: &impl Abort,
+    judge: &Judge<'_, impl Abort>,
     one: &mut Dock<M>,
     other: &mut Dock<N>,
     bay: Bay,
     serial: u32,
     trays: &[N::Element],
     book: &mut Book<'_, N::Element>,
-) -> Result<(), Fail> {
+) {
     let (ended, hand) = collect(one, bay, serial);
+    judge.same(ended, Ok(Outcome::Taken));
     let Some(first) = hand else {
-        assert_eq!(rt; ended, Ok(Outcome::Taken));
-        return Ok(());
+        return;
     };
     let (ended, hand) = collect(other, bay, serial);
+    judge.same(ended, Ok(Outcome::Taken));
     let Some(second) = hand else {
         waive(one, first);
-        assert_eq!(rt; ended, Ok(Outcome::Taken));
-        return Ok(());
+        return;
     };
     let (entered, hand) = enter(other, first, trays, book);
     match hand {
@@ -175,6 +174,5 @@ pub(crate) fn exchange<M: SlotMemory, N: SlotMemory>(
         }
         None => waive(one, second),
     }
-    assert_eq!(rt; entered, Ok(()));
-    Ok(())
+    judge.same(entered, Ok(()));
 }

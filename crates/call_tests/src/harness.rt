@@ -3,6 +3,7 @@ ghost use Rattle.std.specs.Prelude.{◌≤◌, length};
 ghost use Rattle.call_tests.specs.Hand.{InHand};
 
 use crate::hand::{abandon, collect, enter, keep, release, try_waive};
+use crate::judge::Judge;
 use crate::whole::{finish, put_whole, reach, take_whole};
 use dock::{Book, Dock, Receipt};
 use dock_rules::{Abandoned, Line, Outcome, Refusal, Stepped};
@@ -11,7 +12,6 @@ use row_memory::RowMemory;
 use slot_memory::{Bay, SlotMemory};
 use std::fmt::Debug;
 use std::process::Abort;
-use std::test::Fail;
 
 /// An element of a table: what lies in every tray and stands in the book at first, and three others.
 #[derive(Clone, Copy)]
@@ -94,150 +94,128 @@ fn pick<E: Copy>(elements: &[E], item: Item) -> E
 }
 
 fn look_at<E: Copy + PartialEq + Debug>(
-    rt: &impl Abort,
+    judge: &Judge<'_, impl Abort>,
     desk: &mut Desk<'_, E>,
     book: &mut Book<'_, E>,
     elements: &[E],
     look: Look,
-) -> Result<(), Fail>
+)
     requires { 4 ≤ length elements.now }
 {
     match look {
-        Look::Trays(handed) => {
-            desk.handed = handed;
-            Ok(())
-        }
-        Look::Book(entered) => {
-            book.entered = entered;
-            Ok(())
-        }
+        Look::Trays(handed) => desk.handed = handed,
+        Look::Book(entered) => book.entered = entered,
         Look::Tray(bay, due) => {
-            assert_eq!(rt;
+            judge.same(
                 desk.trays.get(bay as usize).copied(),
-                Some(pick(elements, due))
-            );
-            Ok(())
-        },
+                Some(pick(elements, due)),
+            )
+        }
         Look::Row(place, due) => {
-            assert_eq!(rt; book.row.get(place).copied(), Some(pick(elements, due)));
-            Ok(())
-        },
-        Look::Entered(due) => {
-            assert_eq!(rt; book.entered, due);
-            Ok(())
-        },
+            judge.same(book.row.get(place).copied(), Some(pick(elements, due)))
+        }
+        Look::Entered(due) => judge.same(book.entered, due),
     }
 }
 
-// Makes the call with the receipt in hand, and answers whether it went as it should, and what is in
-// hand then.
+// Makes the call with the receipt in hand, and answers what is in hand then.
 fn close<M: SlotMemory>(
+    judge: &Judge<'_, impl Abort>,
     dock: &mut Dock<M>,
     trays: &[M::Element],
     book: &mut Book<'_, M::Element>,
     hand: Option<Receipt>,
     closing: Closing,
-) -> (Result<(), Fail>, Option<Receipt>)
+) -> Option<Receipt>
     requires { InHand dock.old.state hand }
-    ensures { InHand dock.new.state result.1 }
+    ensures { InHand dock.new.state result }
 {
     match (closing, hand) {
         (Closing::Collect(bay, serial, due), hand) => {
             let (got, came) = collect(dock, bay, serial);
-            (check_eq(got, due), keep(dock, hand, came))
+            judge.same(got, due);
+            keep(dock, hand, came)
         }
         (Closing::Abandon(bay, serial, due), hand) => {
             let (got, came) = abandon(dock, bay, serial);
-            (check_eq(got, due), keep(dock, hand, came))
+            judge.same(got, due);
+            keep(dock, hand, came)
         }
         (Closing::Enter(due), Some(receipt)) => {
             let (got, hand) = enter(dock, receipt, trays, book);
-            (check_eq(got, due), hand)
+            judge.same(got, due);
+            hand
         }
         (Closing::Waive(due), Some(receipt)) => {
             let (got, hand) = try_waive(dock, receipt);
-            (check_eq(got, due), hand)
+            judge.same(got, due);
+            hand
         }
         (Closing::Enter(_) | Closing::Waive(_), None) => {
-            (Err(Fail::new("no receipt is in hand")), None)
+            judge.same("no receipt is in hand", "");
+            None
         }
     }
 }
 
 // As `close`, for every act.
 fn make<M: SlotMemory>(
-    rt: &impl Abort,
+    judge: &Judge<'_, impl Abort>,
     dock: &mut Dock<M>,
     desk: &mut Desk<'_, M::Element>,
     book: &mut Book<'_, M::Element>,
     elements: &[M::Element],
     hand: Option<Receipt>,
     act: Act,
-) -> (Result<(), Fail>, Option<Receipt>)
+) -> Option<Receipt>
 where
     M::Element: PartialEq + Debug,
-    requires { (InHand dock.old.state hand) × (4 ≤ length elements.now) }
-    ensures { InHand dock.new.state result.1 }
+    requires hand { InHand dock.old.state hand }
+    requires elements { 4 ≤ length elements.now }
+    ensures { InHand dock.new.state result }
 {
     let handed = desk.handed;
     let trays = front(desk.trays, handed);
     match act {
-        Act::Open(bays, lifetime, base, due) => {
-            (check_eq(dock.open(bays, lifetime, base), due), hand)
-        }
-        Act::Put(bay, item, due) => {
-            (
-                check_eq(dock.put(bay, pick(elements, item), trays), due),
-                hand,
-            )
-        }
-        Act::Take(bay, due) => (check_eq(dock.take(bay), due), hand),
-        Act::Step(bay, due) => (check_eq(dock.step(bay, trays), due), hand),
-        Act::Reach(bay, steps, line) => (reach(rt, dock, trays, bay, steps, line), hand),
-        Act::Finish(bay, due) => (finish(rt, dock, trays, bay, due), hand),
+        Act::Open(bays, lifetime, base, due) => judge.same(dock.open(bays, lifetime, base), due),
+        Act::Put(bay, item, due) => judge.same(dock.put(bay, pick(elements, item), trays), due),
+        Act::Take(bay, due) => judge.same(dock.take(bay), due),
+        Act::Step(bay, due) => judge.same(dock.step(bay, trays), due),
+        Act::Reach(bay, steps, line) => reach(judge, dock, trays, bay, steps, line),
+        Act::Finish(bay, due) => finish(judge, dock, trays, bay, due),
         Act::PutWhole(bay, item, due) => {
-            (
-                put_whole(rt, dock, trays, bay, pick(elements, item), due),
-                hand,
-            )
+            put_whole(judge, dock, trays, bay, pick(elements, item), due)
         }
-        Act::TakeWhole(bay, None) => (take_whole(rt, dock, trays, bay, None), hand),
+        Act::TakeWhole(bay, None) => take_whole(judge, dock, trays, bay, None),
         Act::TakeWhole(bay, Some(item)) => {
-            (
-                take_whole(rt, dock, trays, bay, Some(pick(elements, item))),
-                hand,
-            )
+            take_whole(judge, dock, trays, bay, Some(pick(elements, item)))
         }
-        Act::Close(closing) => close(dock, trays, book, hand, closing),
-        Act::Look(look) => (look_at(rt, desk, book, elements, look), hand),
+        Act::Close(closing) => return close(judge, dock, trays, book, hand, closing),
+        Act::Look(look) => look_at(judge, desk, book, elements, look),
     }
+    hand
 }
 
 /// Makes the calls in their order, and names the first whose answer is another. A receipt that is still
 /// in hand then is waived.
 pub(crate) fn play<M: SlotMemory>(
-    rt: &impl Abort,
+    judge: &mut Judge<'_, impl Abort>,
     dock: &mut Dock<M>,
     desk: &mut Desk<'_, M::Element>,
     book: &mut Book<'_, M::Element>,
     elements: &[M::Element],
     acts: &[Act],
-) -> Result<(), Fail>
+)
 where
     M::Element: PartialEq + Debug,
     requires { 4 ≤ length elements.now }
 {
     let mut hand = None;
     for (i, act) in acts.iter().enumerate() {
-        let (went, left) = make(rt, dock, desk, book, elements, hand, *act);
-        hand = left;
-        if let Err(fail) = went {
-            release(dock, hand);
-            return Err(fail).note(format_args!("call {i}"));
-        }
+        judge.call = i;
+        hand = make(judge, dock, desk, book, elements, hand, *act);
     }
     release(dock, hand);
-    Ok(())
 }
 
 fn wipe<E: Copy>(row: &mut [E], blank: E) {
@@ -248,13 +226,13 @@ fn wipe<E: Copy>(row: &mut [E], blank: E) {
 
 // Makes the calls on a new dock over the memory, with blank trays and a blank book.
 fn run_over<M: SlotMemory + Drop>(
-    rt: &impl Abort,
+    judge: &mut Judge<'_, impl Abort>,
     memory: M,
     trays: &mut [M::Element],
     row: &mut [M::Element],
     elements: &[M::Element],
     acts: &[Act],
-) -> Result<(), Fail>
+)
 where
     M::Element: PartialEq + Debug,
     requires { 4 ≤ length elements.now }
@@ -267,7 +245,7 @@ where
     };
     let mut book = Book { row, entered: 0 };
     play(
-        rt,
+        judge,
         &mut Dock::new(memory),
         &mut desk,
         &mut book,
@@ -278,15 +256,17 @@ where
 
 /// Makes the calls on a new dock over each of the memories in turn, which are lent these slots.
 pub(crate) fn run<E: Copy + PartialEq + Debug>(
-    rt: &impl Abort,
+    judge: &mut Judge<'_, impl Abort>,
     slots: &mut [Option<E>],
     trays: &mut [E],
     row: &mut [E],
     elements: &[E],
     acts: &[Act],
-) -> Result<(), Fail>
+)
     requires { 4 ≤ length elements.now }
 {
-    run_over(rt, MarkMemory::new(slots), trays, row, elements, acts).note("over the mark memory")?;
-    run_over(rt, RowMemory::new(slots), trays, row, elements, acts).note("over the row memory")
+    judge.memory = "mark";
+    run_over(judge, MarkMemory::new(slots), trays, row, elements, acts);
+    judge.memory = "row";
+    run_over(judge, RowMemory::new(slots), trays, row, elements, acts);
 }

@@ -7,6 +7,8 @@ mod hand;
 #[cfg(test)]
 mod harness;
 #[cfg(test)]
+mod judge;
+#[cfg(test)]
 mod tests;
 #[cfg(test)]
 mod whole;

@@ -1,7 +1,7 @@
 // The tables, and what they are run over.
 use crate::harness::{Act, front, run};
+use crate::judge::Judge;
 use std::process::Abort;
-use std::test::Fail;
 use visit::Visit;
 
 mod calls;
@@ -37,31 +37,47 @@ const VISITS: [Visit; 4] = [
     },
 ];
 
+// What compares the answers of this row of a table.
+fn judge_of<'a, R: Abort>(rt: &'a R, row: &'a str, number: usize) -> Judge<'a, R> {
+    Judge {
+        rt,
+        row,
+        number,
+        elements: "words",
+        memory: "mark",
+        call: 0,
+    }
+}
+
 // Makes the calls on words and on visits, over both memories, with so many slots and trays and a book of
 // that length.
-fn run_all(
-    rt: &impl Abort,
+fn run_row(
+    mut judge: Judge<'_, impl Abort>,
     slots: usize,
     trays: usize,
     book: usize,
     acts: &[Act],
-) -> Result<(), Fail> {
+) {
     run(
-        rt,
+        &mut judge,
         front(&mut [Some(77); 8][..], slots),
         front(&mut [0; 17][..], trays),
         front(&mut [0; 3][..], book),
         &WORDS,
         acts,
-    )
-    .note("on words")?;
+    );
+    judge.elements = "visits";
     run(
-        rt,
+        &mut judge,
         front(&mut [Some(VISITS[3]); 8][..], slots),
         front(&mut [VISITS[0]; 17][..], trays),
         front(&mut [VISITS[0]; 3][..], book),
         &VISITS,
         acts,
-    )
-    .note("on visits")
+    );
+}
+
+// The calls of a table that is no row of another.
+fn run_all(rt: &impl Abort, slots: usize, trays: usize, book: usize, acts: &[Act]) {
+    run_row(judge_of(rt, "table", 0), slots, trays, book, acts);
 }

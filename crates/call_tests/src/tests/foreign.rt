@@ -14,16 +14,15 @@ use mark_memory::MarkMemory;
 use row_memory::RowMemory;
 use slot_memory::SlotMemory;
 use std::fmt::Debug;
-use std::process::Abort;
 
 // Makes the calls on a new dock, whose caller has no book.
 fn prepare<M: SlotMemory>(
-    rt: &impl Abort,
+    judge: &mut Judge<'_, impl Abort>,
     dock: &mut Dock<M>,
     trays: &mut [M::Element],
     elements: &[M::Element],
     acts: &[Act],
-) -> Result<(), Fail>
+)
 where
     M::Element: PartialEq + Debug,
     requires { 4 ≤ length elements.now }
@@ -36,7 +35,7 @@ where
         row: &mut [],
         entered: 0,
     };
-    play(rt, dock, &mut desk, &mut book, elements, acts)
+    play(judge, dock, &mut desk, &mut book, elements, acts);
 }
 
 // A take has ended at bay 1, with the serial 2.
@@ -67,126 +66,140 @@ static ENDED: [Act; 5] = [
 // The receipt of bay 1 and serial 2 is offered to another dock, with so many trays and a book of one
 // place with so many entered; then it is waived at home, where a new call starts.
 fn offered<M: SlotMemory, N: SlotMemory>(
-    rt: &impl Abort,
+    judge: &Judge<'_, impl Abort>,
     home: &mut Dock<M>,
     away: &mut Dock<N>,
     trays: &[N::Element],
     row: &mut [N::Element],
     entered: usize,
     due: (Refusal, Refusal),
-) -> Result<(), Fail> {
+) {
     let mut book = Book { row, entered };
-    offer(rt, home, 1, 2, away, trays, &mut book, due)?;
-    assert_eq!(rt; book.entered, entered);
-    assert_eq!(rt; home.take(1), Ok(3));
-    Ok(())
+    offer(judge, home, 1, 2, away, trays, &mut book, due);
+    judge.same(book.entered, entered);
+    judge.same(home.take(1), Ok(3));
 }
 
 // To a dock after these calls: of words to visits, over different memories, and the other way round.
 fn refused_away(
-    rt: &impl Abort,
+    judge: &mut Judge<'_, impl Abort>,
     acts: &[Act],
     handed: usize,
     entered: usize,
     due: (Refusal, Refusal),
-) -> Result<(), Fail> {
+) {
+    judge.number = judge.number.saturating_add(1);
     let mut slots = [None; 1];
     let mut trays = [0; 3];
     let mut visited = [None; 1];
     let mut visits = [VISITS[0]; 3];
     let mut words_home = Dock::new(MarkMemory::new(&mut slots));
     let mut visits_away = Dock::new(RowMemory::new(&mut visited));
-    prepare(rt, &mut words_home, &mut trays, &WORDS, &TAKEN_AT_1)?;
-    prepare(rt, &mut visits_away, &mut visits, &VISITS, acts)?;
+    prepare(judge, &mut words_home, &mut trays, &WORDS, &TAKEN_AT_1);
+    prepare(judge, &mut visits_away, &mut visits, &VISITS, acts);
     offered(
-        rt,
+        judge,
         &mut words_home,
         &mut visits_away,
         front(&mut visits[..], handed),
         &mut [VISITS[0]],
         entered,
         due,
-    )?;
+    );
     let mut visits_home = Dock::new(RowMemory::new(&mut visited));
     let mut words_away = Dock::new(MarkMemory::new(&mut slots));
-    prepare(rt, &mut visits_home, &mut visits, &VISITS, &TAKEN_AT_1)?;
-    prepare(rt, &mut words_away, &mut trays, &WORDS, acts)?;
+    prepare(judge, &mut visits_home, &mut visits, &VISITS, &TAKEN_AT_1);
+    prepare(judge, &mut words_away, &mut trays, &WORDS, acts);
     offered(
-        rt,
+        judge,
         &mut visits_home,
         &mut words_away,
         front(&mut trays[..], handed),
         &mut [0],
         entered,
         due,
-    )
+    );
 }
 
 #[test]
-fn refused_by_another_dock(rt: HostRuntime) -> Result<(), Fail> {
+fn refused_by_another_dock(rt: HostRuntime) {
+    let mut judge = judge_of(&rt, "offered", 0);
     let shut = (Refusal::Shut, Refusal::Shut);
     // not open: with all of the later reasons, and with the bay and the serial alone
-    refused_away(&rt, &NOTHING, 3, 1, shut)?;
-    refused_away(&rt, &NOTHING, 0, 0, shut)?;
+    refused_away(&mut judge, &NOTHING, 3, 1, shut);
+    refused_away(&mut judge, &NOTHING, 0, 0, shut);
     // no such bay: after the number of trays, and before the serial and the book
     let bay = (Refusal::Bay, Refusal::Bay);
-    refused_away(&rt, &ONE_BAY, 3, 1, (Refusal::Trays, Refusal::Bay))?;
-    refused_away(&rt, &ONE_BAY, 1, 1, bay)?;
-    refused_away(&rt, &ONE_BAY, 1, 0, bay)?;
+    refused_away(&mut judge, &ONE_BAY, 3, 1, (Refusal::Trays, Refusal::Bay));
+    refused_away(&mut judge, &ONE_BAY, 1, 1, bay);
+    refused_away(&mut judge, &ONE_BAY, 1, 0, bay);
     // no such receipt: after the number of trays, and before the book
     let serial = (Refusal::Serial, Refusal::Serial);
-    refused_away(&rt, &TWO_FREE, 3, 0, (Refusal::Trays, Refusal::Serial))?;
-    refused_away(&rt, &TWO_FREE, 2, 1, serial)?;
-    refused_away(&rt, &TWO_FREE, 2, 0, serial)?;
+    refused_away(
+        &mut judge,
+        &TWO_FREE,
+        3,
+        0,
+        (Refusal::Trays, Refusal::Serial),
+    );
+    refused_away(&mut judge, &TWO_FREE, 2, 1, serial);
+    refused_away(&mut judge, &TWO_FREE, 2, 0, serial);
     // a call of that bay and serial is no receipt, under way or ended
-    refused_away(&rt, &UNDER_WAY, 2, 0, serial)?;
-    refused_away(&rt, &ENDED, 2, 0, serial)?;
-    refused_away(&rt, &TAKEN_AT_1, 2, 0, serial)
+    refused_away(&mut judge, &UNDER_WAY, 2, 0, serial);
+    refused_away(&mut judge, &ENDED, 2, 0, serial);
+    refused_away(&mut judge, &TAKEN_AT_1, 2, 0, serial);
 }
 
 // Two docks with a receipt of bay 1 and serial 2 each: either takes the other's for its own, and is
 // free then. What is entered at a dock is the element of that dock's tray.
 fn exchanged<M: SlotMemory, N: SlotMemory>(
-    rt: &impl Abort,
+    judge: &Judge<'_, impl Abort>,
     one: &mut Dock<M>,
     other: &mut Dock<N>,
     trays: &[N::Element],
     row: &mut [N::Element],
     due: N::Element,
-) -> Result<(), Fail>
+)
 where
     N::Element: PartialEq + Debug,
 {
     let mut book = Book { row, entered: 0 };
-    exchange(rt, one, other, 1, 2, trays, &mut book)?;
-    assert_eq!(rt; book.entered, 1);
-    assert_eq!(rt; book.row.get(0).copied(), Some(due));
-    assert_eq!(rt; one.take(1), Ok(3));
-    assert_eq!(rt; other.take(1), Ok(3));
-    Ok(())
+    exchange(judge, one, other, 1, 2, trays, &mut book);
+    judge.same(book.entered, 1);
+    judge.same(book.row.get(0).copied(), Some(due));
+    judge.same(one.take(1), Ok(3));
+    judge.same(other.take(1), Ok(3));
 }
 
 #[test]
-fn accepted_by_another_dock(rt: HostRuntime) -> Result<(), Fail> {
+fn accepted_by_another_dock(rt: HostRuntime) {
+    let mut judge = judge_of(&rt, "exchanged", 0);
     let mut slots = [None; 1];
     let mut trays = [0; 2];
     let mut visited = [None; 1];
     let mut visits = [VISITS[0]; 2];
     let mut words = Dock::new(MarkMemory::new(&mut slots));
     let mut visitors = Dock::new(RowMemory::new(&mut visited));
-    prepare(&rt, &mut words, &mut trays, &WORDS, &TAKEN_AT_1)?;
-    prepare(&rt, &mut visitors, &mut visits, &VISITS, &TAKEN_AT_1)?;
+    prepare(&mut judge, &mut words, &mut trays, &WORDS, &TAKEN_AT_1);
+    prepare(&mut judge, &mut visitors, &mut visits, &VISITS, &TAKEN_AT_1);
     exchanged(
-        &rt,
+        &judge,
         &mut words,
         &mut visitors,
         &visits,
         &mut [VISITS[0]],
         VISITS[1],
-    )?;
+    );
     let mut words = Dock::new(RowMemory::new(&mut slots));
     let mut visitors = Dock::new(MarkMemory::new(&mut visited));
-    prepare(&rt, &mut words, &mut trays, &WORDS, &TAKEN_AT_1)?;
-    prepare(&rt, &mut visitors, &mut visits, &VISITS, &TAKEN_AT_1)?;
-    exchanged(&rt, &mut visitors, &mut words, &trays, &mut [0], WORDS[1])
+    prepare(&mut judge, &mut words, &mut trays, &WORDS, &TAKEN_AT_1);
+    prepare(&mut judge, &mut visitors, &mut visits, &VISITS, &TAKEN_AT_1);
+    exchanged(
+        &judge,
+        &mut visitors,
+        &mut words,
+        &trays,
+        &mut [0],
+        WORDS[1],
+    );
 }

@@ -96,9 +96,9 @@ static ABANDONED: [Act; 31] = [
 ];
 
 #[test]
-fn collected_and_abandoned(rt: HostRuntime) -> Result<(), Fail> {
-    run_all(&rt, 1, 2, 3, &COLLECTED)?;
-    run_all(&rt, 1, 2, 3, &ABANDONED)
+fn collected_and_abandoned(rt: HostRuntime) {
+    run_all(&rt, 1, 2, 3, &COLLECTED);
+    run_all(&rt, 1, 2, 3, &ABANDONED);
 }
 
 // The last place of a book of three, and then another book.
@@ -159,10 +159,9 @@ fn no_room(entered: usize) -> [Act; 17] {
 }
 
 #[test]
-fn books(rt: HostRuntime) -> Result<(), Fail> {
-    run_all(&rt, 1, 1, 3, &LAST_PLACE)?;
+fn books(rt: HostRuntime) {
+    run_all(&rt, 1, 1, 3, &LAST_PLACE);
     for (length, entered) in [(3, 3), (3, 4), (3, usize::MAX), (0, 0), (0, 1), (1, 1)] {
-        run_all(&rt, 1, 2, length, &no_room(entered))?;
+        run_all(&rt, 1, 2, length, &no_room(entered));
     }
-    Ok(())
 }

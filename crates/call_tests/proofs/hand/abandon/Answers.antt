@@ -8,5 +8,5 @@ returns-in-Taken g c =
     record {
       stays = c.abandon.ensures.stays;
       out = search rules;
-      fresh = fresh_left c.abandon.new.self.state c.in-Taken.is ensured.receipt (ensured.does [] (record { row = []; entered = 0 }));
+      fresh = fresh_left c.in-Taken.is ensured.receipt (ensured.does [] (record { row = []; entered = 0 }));
     }

@@ -8,5 +8,5 @@ returns-in-Taken g c =
     record {
       stays = c.collect.ensures.stays;
       out = search rules;
-      fresh = fresh_collected c.collect.new.self.state c.in-Taken.is ensured.receipt (ensured.does [] (record { row = []; entered = 0 }));
+      fresh = fresh_collected c.in-Taken.is ensured.receipt (ensured.does [] (record { row = []; entered = 0 }));
     }
