@@ -66,9 +66,9 @@ module _ {E : Type 0} (L base now : ℕ) where
       record { at = k.at ∙ sym same; it = k.it; only = waits ∙ k.only; serial = k.serial; first = first }
 
   -- the plain queue gives its first to a take
-  plain-take : (q : List E) → 0 < length q → (plain L q TakeOf).0 ≡ (Taken, slice_get q 0)
-  plain-take [] h = absurd (omega arith)
-  plain-take (x ∷ q) h = refl
+  plain_take_lem : (q : List E) → 0 < length q → (plain L q TakeOf).0 ≡ (Taken, slice_get q 0)
+  plain_take_lem [] h = absurd (omega arith)
+  plain_take_lem (x ∷ q) h = refl
 
   -- a tray that holds something is not empty
   some_is_not_none : (tr : Option E) → is_some tr ≡ true → tr ≡ None → ⊥
@@ -114,7 +114,7 @@ module _ {E : Type 0} (L base now : ℕ) where
       let u = moving Taking v w in
       let at_head = subst (λ tk. Shared L v.H v.T v.slots v.puts tk (queue_of L base v)) one sh in
       let emptied = head_slot_empty L v.H v.T v.slots v.puts w [] (queue_of L base v) at_head in
-      let took = plain-take (queue_of L base v) (omega (arith, at_head.first)) in
+      let took = plain_take_lem (queue_of L base v) (omega (arith, at_head.first)) in
       record {
         counts = elim [ Putting ↦ omega arith | Taking ↦ omega arith ];
         lims = elim [ Putting ↦ omega arith | Taking ↦ omega arith ];

@@ -269,7 +269,7 @@ module _ {E : Type 0} {K : ℕ} {st : Start} {h : List (Moment E)} {s : State E}
 
     -- a store in the own index: accepted only where the index still is the call's
     pub line17 : stage a.line ≡ S17 → {o : Operation E} {p : Reply E} {n : Meaning E} → Way K s.memory b o p n → o ≡ Store b (InIndex (own d) (wrap (a.index + 1))) → GoalAt (next_at d S17 st.length a.index a.held p) n s.trays
-    line17 e w is_IsStore = go (store_way w (InIndex (own d) (wrap (a.index + 1))) is_IsStore)
+    line17 e w this_store = go (store_way w (InIndex (own d) (wrap (a.index + 1))) this_store)
       where
         k : Stands st.length st.base v d S17 r a.held (mark s.memory b) tr
         k = facts S17 e
@@ -290,7 +290,7 @@ module _ {E : Type 0} {K : ℕ} {st : Start} {h : List (Moment E)} {s : State E}
 
     -- a store in the slot: accepted only where it still is as the side wants it
     pub line15 : stage a.line ≡ S15 → {o : Operation E} {p : Reply E} {n : Meaning E} → Way K s.memory b o p n → o ≡ Store b (InSlot (a.index % st.length) (left_in d tr)) → GoalAt (next_at d S15 st.length a.index a.held p) n s.trays
-    line15 e w is_IsStore = go (store_way w (InSlot (a.index % st.length) (left_in d tr)) is_IsStore)
+    line15 e w this_store = go (store_way w (InSlot (a.index % st.length) (left_in d tr)) this_store)
       where
         k : Stands st.length st.base v d S15 r a.held (mark s.memory b) tr
         k = facts S15 e
@@ -307,7 +307,7 @@ module _ {E : Type 0} {K : ℕ} {st : Start} {h : List (Moment E)} {s : State E}
 
     -- another call's slot store is counted on its behalf
     pub line13 : stage a.line ≡ S13 → {o : Operation E} {p : Reply E} {n : Meaning E} → Way K s.memory b o p n → o ≡ Store b (InIndex (own d) (wrap (a.index + 1))) → GoalAt (next_at d S13 st.length a.index a.held p) n s.trays
-    line13 e w is_IsStore = go (store_way w (InIndex (own d) (wrap (a.index + 1))) is_IsStore)
+    line13 e w this_store = go (store_way w (InIndex (own d) (wrap (a.index + 1))) this_store)
       where
         k : Stands st.length st.base v d S13 r a.held (mark s.memory b) tr
         k = facts S13 e

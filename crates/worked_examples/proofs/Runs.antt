@@ -50,16 +50,16 @@ may_do K m (Mark b c) f e = needed (known m b c) (leb f.spare m.spare) (leb-true
 may_do K m (Store b w) f e =
     needed (known m b (target w)) (may_store K m (live m b (target w)) f) (may_store_lem K m (live m b (target w)) f) e
 
-may-answer : (K : ℕ) (m : Meaning ℕ) (r : Option Refusal) (o : Option (Operation ℕ)) (f : Free) → may_answer K m r o f ≡ true → IfNone r (IfSome o (λ p. May K m p f))
-may-answer K m None None f e = tt
-may-answer K m None (Some o) f e = may_do K m o f e
-may-answer K m (Some r) o f e = tt
+may_answer_lem : (K : ℕ) (m : Meaning ℕ) (r : Option Refusal) (o : Option (Operation ℕ)) (f : Free) → may_answer K m r o f ≡ true → IfNone r (IfSome o (λ p. May K m p f))
+may_answer_lem K m None None f e = tt
+may_answer_lem K m None (Some o) f e = may_do K m o f e
+may_answer_lem K m (Some r) o f e = tt
 
 abbrev pub may_call : ℕ → World ℕ → Call ℕ → Free → Bool
 may_call K w c f = may_answer K w.memory (refusal w c) (touches w c) f
 
-pub may-call : (K : ℕ) (w : World ℕ) (c : Call ℕ) (f : Free) → may_call K w c f ≡ true → MayCall K w c f
-may-call K w c f e = may-answer K w.memory (refusal w c) (touches w c) f e
+pub may_call_lem : (K : ℕ) (w : World ℕ) (c : Call ℕ) (f : Free) → may_call K w c f ≡ true → MayCall K w c f
+may_call_lem K w c f e = may_answer_lem K w.memory (refusal w c) (touches w c) f e
 
 -- whether each call of a play is one of a run: there are as many trays as bays, and the board takes
 -- free results that may be
@@ -88,5 +88,5 @@ module _ (K : ℕ) (st : Start) where
   play_reaches (c ∷ cs) h g e r =
       let own = and_parts (own_trays g.world) (may_call K g.world c (taken g c) && is_run K (called g c).1 cs) e in
       let rest = and_parts (may_call K g.world c (taken g c)) (is_run K (called g c).1 cs) own.1 in
-      let so = may-call K g.world c (taken g c) rest.0 in
+      let so = may_call_lem K g.world c (taken g c) rest.0 in
       play_reaches cs _ (called g c).1 rest.1 (one_call h g.world c (taken g c) _ _ refl own.0 so r)
