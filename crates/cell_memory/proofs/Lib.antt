@@ -1,0 +1,3 @@
+pub mod Spoilt
+pub mod Kept
+pub mod Exactly

@@ -1,0 +1,111 @@
+// What a memory over cells does at each operation.
+ghost use Rattle.std.specs.Prelude.{◌≡◌, replicate, None};
+ghost use Rattle.slot_memory.specs.Rules.{InSlot, Store, Verdict, Keeps};
+ghost use Rattle.cell_memory.specs.Marks.{most, most_within};
+ghost use Rattle.cell_memory.specs.Exact.{meaning_of, fresh, Does};
+
+use crate::marks::Marks;
+use crate::{CellMemory, Marking};
+use slot_memory::{BAYS, Bay, Cell, Index, Lent, SlotMemory, Stored};
+
+impl<'a, E: Copy, K: Marking> CellMemory<'a, E, K> {
+    /// A memory over at most the first 1,025 of the slots, as they are, with both indices 0 and no mark.
+    pub fn new(row: &'a mut [Option<E>]) -> CellMemory<'a, E, K>
+        ensures meaning { meaning_of K.Marking result ≡ fresh row.old }
+        ensures marks { result.marks.bays ≡ replicate 16 None }
+    {
+        CellMemory {
+            slots: Lent::new(row),
+            tail: 0,
+            head: 0,
+            marks: Marks::new(),
+        }
+    }
+}
+
+fn store_slot<E: Copy, K: Marking>(
+    memory: &mut CellMemory<'_, E, K>,
+    bay: Bay,
+    slot: u32,
+    content: Option<E>,
+) -> Stored
+    ensures rules { Keeps (most K.Marking) (meaning_of K.Marking memory.old) (Store bay (InSlot slot content)) (Verdict result) (meaning_of K.Marking memory.new) }
+    ensures exact { Does K.Marking memory.old (Store bay (InSlot slot content)) (Verdict result) memory.new }
+{
+    if bay >= BAYS || slot >= memory.slots.len() {
+        return Stored::Refused;
+    }
+    if !memory.marks.settle(bay, Cell::Slot(slot)) {
+        return Stored::Refused;
+    }
+    memory.slots.put(slot, content);
+    Stored::Accepted
+}
+
+impl<'a, E: Copy, K: Marking> SlotMemory for CellMemory<'a, E, K> {
+    type Element = E;
+
+    ghost meaning = { meaning_of K.Marking };
+
+    ghost limit = { λ _. most K.Marking };
+
+    ghost bounded = { λ _. most_within K.Marking };
+
+    ghost exactly = { Does K.Marking };
+
+    fn length(&self) -> u32 {
+        self.slots.len()
+    }
+
+    fn clear(&mut self, base: u32) {
+        self.slots.clear();
+        self.tail = base;
+        self.head = base;
+        self.marks = Marks::new();
+    }
+
+    fn read(&self, index: Index) -> u32 {
+        match index {
+            Index::Tail => self.tail,
+            Index::Head => self.head,
+        }
+    }
+
+    fn mark_slot(&mut self, bay: Bay, slot: u32) -> Option<E> {
+        if bay >= BAYS || slot >= self.slots.len() {
+            return None;
+        }
+        self.marks.make(bay, Cell::Slot(slot));
+        self.slots.get(slot)
+    }
+
+    fn mark_index(&mut self, bay: Bay, index: Index) -> u32 {
+        if bay >= BAYS {
+            return 0;
+        }
+        self.marks.make(bay, Cell::At(index));
+        self.read(index)
+    }
+
+    fn fill_slot(&mut self, bay: Bay, slot: u32, element: E) -> Stored {
+        store_slot(self, bay, slot, Some(element))
+    }
+
+    fn empty_slot(&mut self, bay: Bay, slot: u32) -> Stored {
+        store_slot(self, bay, slot, None)
+    }
+
+    fn store_index(&mut self, bay: Bay, index: Index, number: u32) -> Stored {
+        if bay >= BAYS {
+            return Stored::Refused;
+        }
+        if !self.marks.settle(bay, Cell::At(index)) {
+            return Stored::Refused;
+        }
+        match index {
+            Index::Tail => self.tail = number,
+            Index::Head => self.head = number,
+        }
+        Stored::Accepted
+    }
+}
