@@ -1,11 +1,11 @@
 -- What the code leaves is what a memory over cells does, exactly. Assumes nothing.
-use Rattle.std.proofs.Common.{◌≡◌, ℕ, Bool, true, false, cond, not, ◌&&◌, map, set, Some, None, Option, refl, sym, ap, ◌∙◌}
+use Rattle.std.proofs.Common.{◌≡◌, ℕ, Bool, true, false, cond, not, ◌&&◌, map, set, Some, None, Option, sym, ap, ◌∙◌}
 use Rattle.std.proofs.lemmas.List.{map-set}
 use Rattle.slot_memory.specs.declared.Cell.{Cell}
 use Rattle.slot_memory.specs.declared.Index.TheVariants.{Tail, Head}
 use Rattle.slot_memory.specs.declared.Stored.TheVariants.{Accepted, Refused}
 use Rattle.slot_memory.specs.Lent.{contents}
-use Rattle.slot_memory.specs.Meaning.{Meaning, known, live, is_on, unless_on}
+use Rattle.slot_memory.specs.Meaning.{Meaning, known, live, is_on}
 use Rattle.slot_memory.specs.Rules.{Write, InSlot, InIndex, Mark, Store, Reply, Free, Verdict, target, reading, nothing, marked, written, stored, touched}
 use Rattle.cell_memory.specs.declared.marking.Marking.{Ghosts}
 use Rattle.cell_memory.specs.declared.CellMemory.{CellMemory}
@@ -77,6 +77,6 @@ module _ {K : Type 0} (k : Ghosts K) (laws : Laws k) {E : Type 0} where
       let free : Free = chosen k (meaning_of k m) m.marks.bays (Mark b c) in
       let after = mk ∙ sym (ap (λ t. cond t (set m.marks.bays b (Some (k.made c))) m.marks.bays) kn) in
       let is : meaning_of k n ≡ marked (meaning_of k m) b (Some c) free.spare =
-            marked_meaning m n b (Some (k.made c)) free.spare mk (ap (spare_of k) after) wr
-            ∙ ap (λ x. marked (meaning_of k m) b (Some x) free.spare) (laws.there c) in
+      marked_meaning m n b (Some (k.made c)) free.spare mk (ap (spare_of k) after) wr
+      ∙ ap (λ x. marked (meaning_of k m) b (Some x) free.spare) (laws.there c) in
       record { is = (λ x. (rd x, is x)) ∙ sym (marked_known (meaning_of k m) b free c kn); marks = after }

@@ -1,5 +1,5 @@
 -- The free results that a memory over cells takes are among those that may be. Assumes nothing.
-use Rattle.std.proofs.Common.{◌≡◌, ℕ, ◌<◌, ◌≤◌, Bool, true, false, cond, not, ◌&&◌, ltb, List, map, length, get_or, set, Some, None, MatchBool, Option, sym, refl, ap, ◌∙◌, arith}
+use Rattle.std.proofs.Common.{◌≡◌, ℕ, ◌<◌, ◌≤◌, Bool, true, false, cond, not, ◌&&◌, ltb, List, map, get_or, set, Some, None, MatchBool, Option, sym, refl, ap, ◌∙◌, arith}
 use Rattle.std.proofs.lemmas.List.{length-map}
 use Rattle.slot_memory.specs.declared.Cell.{Cell}
 use Rattle.std.proofs.lemmas.Bool.{ltb-true, and_parts}

@@ -1,5 +1,5 @@
 -- How many marks are spoilt, and which cells are marked, as marks are set and struck. Assumes nothing.
-use Rattle.std.proofs.Common.{◌≡◌, ℕ, zero, suc, ◌+◌, ◌<◌, ◌≤◌, Bool, true, false, cond, List, [], ◌∷◌, map, length, get_or, set, replicate, Some, None, Option, refl, ap, ◌∙◌, sym, le_of_suc-le-suc, not-suc-le-zero, arith}
+use Rattle.std.proofs.Common.{◌≡◌, ℕ, zero, suc, ◌+◌, ◌<◌, ◌≤◌, Bool, true, false, cond, List, [], ◌∷◌, map, length, get_or, set, Some, None, Option, refl, ap, ◌∙◌, sym, le_of_suc-le-suc, not-suc-le-zero, arith}
 use Rattle.std.specs.Option.{option_map}
 use Rattle.slot_memory.specs.declared.Cell.{Cell}
 use Rattle.slot_memory.specs.Meaning.{is_on, unless_on}

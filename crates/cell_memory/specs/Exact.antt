@@ -12,10 +12,14 @@ use Rattle.cell_memory.specs.declared.marking.Marking.{Ghosts}
 use Rattle.cell_memory.specs.declared.CellMemory.{CellMemory}
 use Rattle.cell_memory.specs.Marks.{cell_of, struck, spoilt_in, spare_of, balks}
 
+module _ {K E : Type 0} where
+  abbrev pub marks_of : CellMemory E K → List (Option K)
+  marks_of m = m.marks.bays
+
 module _ {K : Type 0} (k : Ghosts K) {E : Type 0} where
   abbrev pub meaning_of : CellMemory E K → Meaning E
   meaning_of m =
-      record { slots = contents m.slots; tail = m.tail; head = m.head; marks = map (cell_of k) m.marks.bays; spare = spare_of k m.marks.bays }
+      record { slots = contents m.slots; tail = m.tail; head = m.head; marks = map (cell_of k) (marks_of m); spare = spare_of k (marks_of m) }
 
   -- the marks after an operation
   abbrev pub marks_after : Meaning E → List (Option K) → Operation E → List (Option K)
@@ -37,8 +41,8 @@ module _ {K : Type 0} (k : Ghosts K) {E : Type 0} where
       record { refuse = cond k.balks (refuses ks o) false; spare = cond k.balks (spoilt_in k (marks_after m ks o)) 0 }
 
   pub record Does (m : CellMemory E K) (o : Operation E) (r : Reply E) (n : CellMemory E K) : Type 0 where
-    pub is : (r, meaning_of n) ≡ touched (meaning_of m) o (chosen (meaning_of m) m.marks.bays o)
-    pub marks : n.marks.bays ≡ marks_after (meaning_of m) m.marks.bays o
+    pub is : (r, meaning_of n) ≡ touched (meaning_of m) o (chosen (meaning_of m) (marks_of m) o)
+    pub marks : marks_of n ≡ marks_after (meaning_of m) (marks_of m) o
 
 module _ {E : Type 0} where
   -- what a memory that was just made over this row of slots means

@@ -16,9 +16,7 @@ pub record MarkLaws {K : Type 0} (place : K → Cell) (spoilt : K → Bool) (mad
   -- a mark is made on its cell, and is sound
   pub there : (c : Cell) → place (made c) ≡ c
   pub sound : (c : Cell) → spoilt (made c) ≡ false
-
   -- an accepted store takes the marks on its cell, and leaves every other on the cell where it is
   pub stays : (c : Cell) (k : K) → option_map place (struck c k) ≡ unless_on c (Some (place k))
-
   -- a memory that never balks has no spoilt mark
   pub calm : balks ≡ false → (k : K) → spoilt k ≡ false

@@ -2,7 +2,7 @@
 ghost use Rattle.std.specs.Prelude.{◌≡◌, replicate, None};
 ghost use Rattle.slot_memory.specs.Rules.{InSlot, Store, Verdict, Keeps};
 ghost use Rattle.cell_memory.specs.Marks.{most, most_within};
-ghost use Rattle.cell_memory.specs.Exact.{meaning_of, fresh, Does};
+ghost use Rattle.cell_memory.specs.Exact.{meaning_of, marks_of, fresh, Does};
 
 use crate::marks::Marks;
 use crate::{CellMemory, Marking};
@@ -12,7 +12,7 @@ impl<'a, E: Copy, K: Marking> CellMemory<'a, E, K> {
     /// A memory over at most the first 1,025 of the slots, as they are, with both indices 0 and no mark.
     pub fn new(row: &'a mut [Option<E>]) -> CellMemory<'a, E, K>
         ensures meaning { meaning_of K.Marking result ≡ fresh row.old }
-        ensures marks { result.marks.bays ≡ replicate 16 None }
+        ensures marks { marks_of result ≡ replicate 16 None }
     {
         CellMemory {
             slots: Lent::new(row),

@@ -1,13 +1,15 @@
-// The row memory: a slot memory whose cells lie in rows, and where an accepted store disturbs the
-// marks on its neighbours. A store on a disturbed mark is refused although it is live.
+// The row memory: a memory over cells that lie in rows, where an accepted store disturbs the marks on its
+// neighbours. A store on a disturbed mark is refused although it is live.
 #![tactic(auto)]
 
-use slot_memory::{Cell, Lent};
+ghost use Rattle.std.specs.Prelude.{◌≡◌, true};
+ghost use Rattle.row_memory.specs.Row.{same_row, place, sound, struck, is_spoilt, mark_laws};
 
-mod methods;
+use cell_memory::{CellMemory, Marking};
+use slot_memory::Cell;
 
-/// A bay's mark.
-#[derive(Clone, Copy)]
+/// A mark that an accepted store on a neighbour of its cell spoils.
+#[derive(Clone, Copy, Debug, PartialEq, Eq)]
 pub struct RowMark {
     cell: Cell,
     /// A store was accepted on another cell of the same row since the mark was made: the next store
@@ -16,11 +18,50 @@ pub struct RowMark {
 }
 
 /// A slot memory that refuses the live stores on spoilt marks.
-#[derive(Drop)]
-pub struct RowMemory<'a, E: Copy> {
-    slots: Lent<'a, E>,
-    tail: u32,
-    head: u32,
-    /// For each bay its mark.
-    marks: [Option<RowMark>; 16],
+pub type RowMemory<'a, E> = CellMemory<'a, E, RowMark>;
+
+fn same_row(a: Cell, b: Cell) -> bool
+    ensures { result ≡ same_row a b }
+{
+    match (a, b) {
+        (Cell::Slot(i), Cell::Slot(j)) => i / 4 == j / 4,
+        (Cell::At(_), Cell::At(_)) => true,
+        _ => false,
+    }
+}
+
+impl Marking for RowMark {
+    ghost place = { place };
+
+    ghost spoilt = { is_spoilt };
+
+    ghost made = { sound };
+
+    ghost struck = { struck };
+
+    ghost balks = { true };
+
+    ghost laws = { mark_laws };
+
+    fn on(cell: Cell) -> RowMark {
+        RowMark {
+            cell,
+            spoilt: false,
+        }
+    }
+
+    fn allows(self, cell: Cell) -> bool {
+        self.cell == cell && !self.spoilt
+    }
+
+    fn strike(self, cell: Cell) -> Option<RowMark> {
+        match self.cell {
+            on if on == cell => None,
+            on if same_row(on, cell) => Some(RowMark {
+                spoilt: true,
+                ..self
+            }),
+            _ => Some(self),
+        }
+    }
 }

@@ -1,6 +1,5 @@
 // The slots that a caller lends to a memory.
-ghost use Rattle.std.specs.Prelude.{◌≡◌, ◌<◌, ◌≤◌, ◌++◌, length, drop, replicate, None, slice_index_or, slice_set};
-ghost use Rattle.slot_memory.specs.Lent.{contents, used};
+ghost use Rattle.std.specs.Prelude.{◌≡◌, ◌≤◌, length, replicate, None, slice_index_or, slice_set};
 
 /// How many of the lent slots are used at most: one more than a ring may have, so that a longer row
 /// is told apart from one of the right length.
@@ -9,57 +8,35 @@ const MOST: usize = 1025;
 /// A row of slots, lent by the caller.
 #[derive(Drop)]
 pub struct Lent<'a, E: Copy> {
-    /// The whole row; only the first 1,025 count.
     row: &'a mut [Option<E>],
-}
-
-fn at<E: Copy>(row: &[Option<E>], i: usize) -> Option<E>
-    requires { i < length row.now }
-    ensures { result ≡ slice_index_or row.now i None }
-{
-    row[i]
-}
-
-fn write<E: Copy>(row: &mut [Option<E>], i: usize, content: Option<E>)
-    requires { i < length row.old }
-    ensures { row.new ≡ slice_set row.old i content }
-{
-    row[i] = content;
-}
-
-// Empties the first slots, up to `end`.
-fn empty<E: Copy>(row: &mut [Option<E>], end: usize)
-    requires { end ≤ length row.old }
-    ensures { row.new ≡ replicate end None ++ drop end row.old }
-{
-    for i in 0..end {
-        row[i] = None;
-    }
+    ghost few: { length row.now ≤ 1025 },
 }
 
 impl<'a, E: Copy> Lent<'a, E> {
+    ghost use Rattle.slot_memory.specs.Lent.{contents, used};
+
     /// The first 1,025 of the slots, or all of them if they are fewer, as they are.
     pub fn new(row: &'a mut [Option<E>]) -> Lent<'a, E>
         ensures { contents result ≡ used row.old }
     {
-        Lent { row }
+        let used = MOST.min(row.len());
+        Lent {
+            row: &mut row[..used],
+        }
     }
 
     /// How many slots there are.
     pub fn len(&self) -> u32
         ensures { result ≡ length (contents self.now) }
     {
-        self.row.len().min(MOST) as u32
+        self.row.len() as u32
     }
 
     /// What the slot holds; past the end, nothing.
     pub fn get(&self, slot: u32) -> Option<E>
         ensures { result ≡ slice_index_or (contents self.now) slot None }
     {
-        if slot >= self.len() {
-            return None;
-        }
-        at(self.row, slot as usize)
+        self.row.get(slot as usize).copied().flatten()
     }
 
     /// Writes a slot; past the end, none.
@@ -67,7 +44,7 @@ impl<'a, E: Copy> Lent<'a, E> {
         ensures { contents self.new ≡ slice_set (contents self.old) slot content }
     {
         if slot < self.len() {
-            write(self.row, slot as usize, content);
+            self.row[slot as usize] = content;
         }
     }
 
@@ -75,7 +52,6 @@ impl<'a, E: Copy> Lent<'a, E> {
     pub fn clear(&mut self)
         ensures { contents self.new ≡ replicate (length (contents self.old)) None }
     {
-        let end = self.row.len().min(MOST);
-        empty(self.row, end);
+        self.row.fill(None);
     }
 }

@@ -3,9 +3,12 @@
 #![tactic(auto)]
 
 ghost use Rattle.std.specs.Prelude.{◌≡◌, ℕ, ◌≤◌, length, Some, None};
-ghost use Rattle.slot_memory.specs.Meaning.{Meaning, most_spare, same_cell};
+ghost use Rattle.slot_memory.specs.Meaning.{Meaning, most_spare};
 ghost use Rattle.slot_memory.specs.Rules.{InSlot, InIndex, Operation, Clear, Read, Mark, Store, Reply, Done, Number, Content, Verdict, Keeps};
+ghost use Rattle.slot_memory.specs.Words.{stored_word};
 ghost use Rattle.slot_memory.specs.declared.Cell.TheVariants.{Slot, At};
+
+use std::fmt;
 
 mod lent;
 
@@ -33,20 +36,6 @@ pub enum Cell {
     At(Index),
 }
 
-impl Cell {
-    /// Whether the two are one cell.
-    pub fn is(self, other: Cell) -> bool
-        ensures { result ≡ same_cell self other }
-    {
-        match (self, other) {
-            (Cell::Slot(i), Cell::Slot(j)) => i == j,
-            (Cell::At(Index::Tail), Cell::At(Index::Tail)) => true,
-            (Cell::At(Index::Head), Cell::At(Index::Head)) => true,
-            _ => false,
-        }
-    }
-}
-
 /// What a store answers.
 #[derive(Clone, Copy, Debug, PartialEq, Eq)]
 pub enum Stored {
@@ -54,6 +43,17 @@ pub enum Stored {
     Accepted,
     /// Nothing is written. The storing bay's mark is gone.
     Refused,
+}
+
+impl fmt::Display for Stored {
+    ghost output = { λ x. Some (stored_word x) };
+
+    fn fmt<W: fmt::Write>(&self, f: &mut fmt::Formatter<W>) -> fmt::Result {
+        f.write_str(match self {
+            Stored::Accepted => "accepted",
+            Stored::Refused => "refused",
+        })
+    }
 }
 
 /// A board that keeps a ring's slots, each empty or with an element, and the ring's two indices.

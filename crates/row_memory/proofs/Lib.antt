@@ -1,3 +1,0 @@
-pub mod Spoilt
-pub mod Kept
-pub mod Exactly

@@ -1,6 +1,0 @@
-use Rattle.std.proofs.Common.{take, ap, ◌∙◌}
-use Rattle.slot_memory.proofs.Fronts.{fill_front}
-use Rattle.slot_memory.proofs.lent.Lent.clear.Goals as goal
-
-pub returns : goal.returns
-returns g c = ap (take 1025) c.empty.ensures ∙ fill_front 1025 _ _ _ c.min-end.ensures
