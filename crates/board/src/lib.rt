@@ -2,6 +2,7 @@
 #![tactic(auto)]
 
 ghost use Rattle.std.specs.Prelude.{◌≡◌};
+ghost use Rattle.slot_memory.specs.Rules.{InSlot, Store, Verdict, Keeps};
 ghost use Rattle.mark_memory.specs.Exact.{fresh};
 ghost use Rattle.board.specs.Kinds.{fresh_kind, kind_of, meaning_of, limit_of, bounded, Plays};
 
@@ -10,7 +11,7 @@ use row_memory::RowMemory;
 use slot_memory::{Bay, Index, SlotMemory, Stored};
 
 /// Which slot memory a board is to be.
-#[derive(Clone, Copy)]
+#[derive(Clone, Copy, Debug, PartialEq, Eq)]
 pub enum BoardKind {
     /// The mark memory, which accepts every live store.
     Marks,
@@ -39,6 +40,8 @@ impl<'a, E: Copy> Board<'a, E> {
     }
 }
 
+// Each operation is one `match` on the kind. A `dyn` memory would be no plainer: clauses could not say of which
+// kind it is, and so not what it answers.
 impl<'a, E: Copy> SlotMemory for Board<'a, E> {
     type Element = E;
 
@@ -85,17 +88,14 @@ impl<'a, E: Copy> SlotMemory for Board<'a, E> {
         }
     }
 
-    fn fill_slot(&mut self, bay: Bay, slot: u32, element: E) -> Stored {
+    fn store_slot(&mut self, bay: Bay, slot: u32, content: Option<E>) -> Stored
+        ensures rules { Keeps (limit_of self.old) (meaning_of self.old) (Store bay (InSlot slot content)) (Verdict result) (meaning_of self.new) }
+        ensures exact { Plays self.old (Store bay (InSlot slot content)) (Verdict result) self.new }
+        ensures fixed { limit_of self.new ≡ limit_of self.old }
+    {
         match self {
-            Board::Marks(memory) => memory.fill_slot(bay, slot, element),
-            Board::Rows(memory) => memory.fill_slot(bay, slot, element),
-        }
-    }
-
-    fn empty_slot(&mut self, bay: Bay, slot: u32) -> Stored {
-        match self {
-            Board::Marks(memory) => memory.empty_slot(bay, slot),
-            Board::Rows(memory) => memory.empty_slot(bay, slot),
+            Board::Marks(memory) => memory.store_slot(bay, slot, content),
+            Board::Rows(memory) => memory.store_slot(bay, slot, content),
         }
     }
 

@@ -1,5 +1,6 @@
 // What a memory over cells does at each operation.
-ghost use Rattle.std.specs.Prelude.{◌≡◌, replicate, None};
+ghost use Rattle.std.specs.Prelude.{◌≡◌, ◌<◌, replicate, None, IsTrue};
+ghost use Rattle.slot_memory.specs.Meaning.{known};
 ghost use Rattle.slot_memory.specs.Rules.{InSlot, Store, Verdict, Keeps};
 ghost use Rattle.cell_memory.specs.Marks.{most, most_within};
 ghost use Rattle.cell_memory.specs.Exact.{meaning_of, marks_of, fresh, Does};
@@ -21,25 +22,18 @@ impl<'a, E: Copy, K: Marking> CellMemory<'a, E, K> {
             marks: Marks::new(),
         }
     }
-}
 
-fn store_slot<E: Copy, K: Marking>(
-    memory: &mut CellMemory<'_, E, K>,
-    bay: Bay,
-    slot: u32,
-    content: Option<E>,
-) -> Stored
-    ensures rules { Keeps (most K.Marking) (meaning_of K.Marking memory.old) (Store bay (InSlot slot content)) (Verdict result) (meaning_of K.Marking memory.new) }
-    ensures exact { Does K.Marking memory.old (Store bay (InSlot slot content)) (Verdict result) memory.new }
-{
-    if bay >= BAYS || slot >= memory.slots.len() {
-        return Stored::Refused;
+    // Whether both the bay and the cell are in range.
+    fn knows(&self, bay: Bay, cell: Cell) -> bool
+        ensures known { result ≡ known (meaning_of K.Marking self.now) bay cell }
+        ensures bay { IsTrue result → bay < 16 }
+    {
+        bay < BAYS
+            && match cell {
+                Cell::Slot(slot) => slot < self.slots.len(),
+                Cell::At(_) => true,
+            }
     }
-    if !memory.marks.settle(bay, Cell::Slot(slot)) {
-        return Stored::Refused;
-    }
-    memory.slots.put(slot, content);
-    Stored::Accepted
 }
 
 impl<'a, E: Copy, K: Marking> SlotMemory for CellMemory<'a, E, K> {
@@ -72,7 +66,7 @@ impl<'a, E: Copy, K: Marking> SlotMemory for CellMemory<'a, E, K> {
     }
 
     fn mark_slot(&mut self, bay: Bay, slot: u32) -> Option<E> {
-        if bay >= BAYS || slot >= self.slots.len() {
+        if !self.knows(bay, Cell::Slot(slot)) {
             return None;
         }
         self.marks.make(bay, Cell::Slot(slot));
@@ -80,23 +74,29 @@ impl<'a, E: Copy, K: Marking> SlotMemory for CellMemory<'a, E, K> {
     }
 
     fn mark_index(&mut self, bay: Bay, index: Index) -> u32 {
-        if bay >= BAYS {
+        if !self.knows(bay, Cell::At(index)) {
             return 0;
         }
         self.marks.make(bay, Cell::At(index));
         self.read(index)
     }
 
-    fn fill_slot(&mut self, bay: Bay, slot: u32, element: E) -> Stored {
-        store_slot(self, bay, slot, Some(element))
-    }
-
-    fn empty_slot(&mut self, bay: Bay, slot: u32) -> Stored {
-        store_slot(self, bay, slot, None)
+    fn store_slot(&mut self, bay: Bay, slot: u32, content: Option<E>) -> Stored
+        ensures rules { Keeps (most K.Marking) (meaning_of K.Marking self.old) (Store bay (InSlot slot content)) (Verdict result) (meaning_of K.Marking self.new) }
+        ensures exact { Does K.Marking self.old (Store bay (InSlot slot content)) (Verdict result) self.new }
+    {
+        if !self.knows(bay, Cell::Slot(slot)) {
+            return Stored::Refused;
+        }
+        if !self.marks.settle(bay, Cell::Slot(slot)) {
+            return Stored::Refused;
+        }
+        self.slots.put(slot, content);
+        Stored::Accepted
     }
 
     fn store_index(&mut self, bay: Bay, index: Index, number: u32) -> Stored {
-        if bay >= BAYS {
+        if !self.knows(bay, Cell::At(index)) {
             return Stored::Refused;
         }
         if !self.marks.settle(bay, Cell::At(index)) {

@@ -101,16 +101,10 @@ pub trait SlotMemory {
         ensures exact { exactly self.old (Mark bay (At index)) (Number result) self.new }
         ensures fixed { limit self.new ≡ limit self.old };
 
-    /// Stores an element in a slot, if the bay's mark is still on it and the board does not balk.
-    fn fill_slot(&mut self, bay: Bay, slot: u32, element: Self::Element) -> Stored
-        ensures rules { Keeps (limit self.old) (meaning self.old) (Store bay (InSlot slot (Some element))) (Verdict result) (meaning self.new) }
-        ensures exact { exactly self.old (Store bay (InSlot slot (Some element))) (Verdict result) self.new }
-        ensures fixed { limit self.new ≡ limit self.old };
-
-    /// Stores empty in a slot, if the bay's mark is still on it and the board does not balk.
-    fn empty_slot(&mut self, bay: Bay, slot: u32) -> Stored
-        ensures rules { Keeps (limit self.old) (meaning self.old) (Store bay (InSlot slot None)) (Verdict result) (meaning self.new) }
-        ensures exact { exactly self.old (Store bay (InSlot slot None)) (Verdict result) self.new }
+    /// Stores an element or empty in a slot, if the bay's mark is still on it and the board does not balk.
+    fn store_slot(&mut self, bay: Bay, slot: u32, content: Option<Self::Element>) -> Stored
+        ensures rules { Keeps (limit self.old) (meaning self.old) (Store bay (InSlot slot content)) (Verdict result) (meaning self.new) }
+        ensures exact { exactly self.old (Store bay (InSlot slot content)) (Verdict result) self.new }
         ensures fixed { limit self.new ≡ limit self.old };
 
     /// Stores in an index, if the bay's mark is still on it and the board does not balk.

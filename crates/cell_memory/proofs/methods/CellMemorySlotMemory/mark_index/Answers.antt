@@ -1,9 +1,7 @@
-use Rattle.std.proofs.Common.{refl, ap, arith}
-use Rattle.slot_memory.proofs.Ranges.{index-known}
+use Rattle.std.proofs.Common.{sym, refl, ap}
 use Rattle.slot_memory.specs.declared.Cell.TheVariants.{At}
 use Rattle.slot_memory.specs.Rules.{Number}
 use Rattle.cell_memory.specs.declared.CellMemory.{CellMemory}
-use Rattle.cell_memory.specs.Exact.{meaning_of}
 use Rattle.cell_memory.proofs.Kept.{keeps}
 use Rattle.cell_memory.proofs.Exactly.{marked_exactly}
 use Rattle.cell_memory.proofs.methods.CellMemorySlotMemory.mark_index.Goals as goal
@@ -13,7 +11,7 @@ returns g c =
     let m = c.args.self.now in
     let k = g.K.Marking in
     let laws = g.met.K.Marking.laws in
-    let known = index-known (meaning_of k m) c.args.bay (omega arith) c.args.index in
+    let known = sym c.if-not-knows.ensures.known in
     let n : CellMemory _ _ = record { slots = m.slots; tail = m.tail; head = m.head; marks = c.make.new.self } in
     let e = marked_exactly k laws m n c.args.bay (At c.args.index) (Number c.read.result) known (ap (λ p. p.0) c.read.ensures.rules.is) c.make.ensures (refl, refl, refl) in
     record { rules = keeps k laws m _ _ n e; exact = e; fixed = refl }
