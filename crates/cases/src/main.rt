@@ -2,7 +2,7 @@
 // tells of each whether the output is the one that is kept.
 #![tactic(auto)]
 
-ghost use Rattle.std.specs.Prelude.{◌≡◌, None};
+ghost use Rattle.std.specs.Prelude.{◌≡◌, ◌↔◌, IsNone};
 
 use schedule::run_text;
 use std::rt::Files;
@@ -14,7 +14,7 @@ const NAMES: &str = "names";
 
 // Where two texts differ first, if they do.
 fn difference(one: &[u8], other: &[u8]) -> Option<usize>
-    ensures { result ≡ None → one.now ≡ other.now }
+    ensures { IsNone result ↔ (one.now ≡ other.now) }
 {
     if one == other {
         return None;
@@ -29,16 +29,12 @@ fn judge(rt: &(impl Files + AllocGlobal + Print), name: &str) -> io::Result<bool
     let text = fs::read(rt, format!(in rt.alloc(); "{name}.in")?)?;
     let kept = fs::read(rt, format!(in rt.alloc(); "{name}.out")?)?;
     let output = run_text(rt.alloc(), text.as_slice())?;
-    match difference(output.as_bytes(), kept.as_slice()) {
-        None => {
-            println!(rt; "{name}: as expected")?;
-            Ok(true)
-        }
-        Some(place) => {
-            println!(rt; "{name}: DIFFERS at byte {place}")?;
-            Ok(false)
-        }
+    let difference = difference(output.as_bytes(), kept.as_slice());
+    match difference {
+        None => println!(rt; "{name}: as expected")?,
+        Some(place) => println!(rt; "{name}: DIFFERS at byte {place}")?,
     }
+    Ok(difference.is_none())
 }
 
 fn main(rt: HostRuntime) -> io::Result<()> {

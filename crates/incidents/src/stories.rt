@@ -40,18 +40,22 @@ const DEPOT_HELD: Visit = Visit {
 };
 
 impl<R: Print> Stage<'_, '_, R> {
-    // Puts a visit, steps to the end and collects.
-    fn put_whole(&mut self, reader: &mut Reader, visit: Visit) -> io::Result<()> {
-        self.put(reader, visit)?;
+    // Steps to the end of the call, and collects it.
+    fn finish(&mut self, reader: &mut Reader) -> io::Result<()> {
         self.through(reader)?;
         self.collect(reader)
     }
 
-    // Takes a visit, steps to the end and collects.
+    // A put from its start to its end.
+    fn put_whole(&mut self, reader: &mut Reader, visit: Visit) -> io::Result<()> {
+        self.put(reader, visit)?;
+        self.finish(reader)
+    }
+
+    // A take from its start to its end.
     fn take_whole(&mut self, reader: &mut Reader) -> io::Result<()> {
         self.take(reader)?;
-        self.through(reader)?;
-        self.collect(reader)
+        self.finish(reader)
     }
 }
 
@@ -62,11 +66,11 @@ pub(crate) fn timber_yard<R: Print>(stage: &mut Stage<'_, '_, R>) -> io::Result<
     let mut other = Reader::new(1);
     stage.put(&mut held, YARD_FIRST)?;
     stage.steps(&mut held, 5)?;
-    stage.hold(&held)?;
+    stage.tell_of(&held, "is pulled out")?;
     stage.put(&mut other, YARD_SECOND)?;
     stage.steps(&mut other, 13)?;
     stage.collect(&other)?;
-    stage.back(&held)?;
+    stage.tell_of(&held, "is back")?;
     stage.steps(&mut held, 1)?;
     stage.collect(&held)?;
     stage.take_whole(&mut other)?;
@@ -81,12 +85,12 @@ pub(crate) fn bus_depot<R: Print>(stage: &mut Stage<'_, '_, R>) -> io::Result<()
     let mut held = Reader::new(1);
     stage.put(&mut held, DEPOT_HELD)?;
     stage.steps(&mut held, 4)?;
-    stage.hold(&held)?;
+    stage.tell_of(&held, "is pulled out")?;
     stage.put_whole(&mut other, DEPOT_FIRST)?;
     stage.put_whole(&mut other, DEPOT_SECOND)?;
     stage.take_whole(&mut other)?;
     stage.take_whole(&mut other)?;
-    stage.back(&held)?;
+    stage.tell_of(&held, "is back")?;
     stage.steps(&mut held, 1)?;
     stage.take_whole(&mut other)?;
     stage.steps(&mut held, 7)?;

@@ -1,5 +1,6 @@
 // The calls of an incident, each told in print with what the dock answered.
 use crate::desk::{Desk, Reader};
+use crate::step::Step;
 use dock_rules::{Refusal, Stepped};
 use std::io;
 use visit::Visit;
@@ -70,10 +71,18 @@ impl<R: Print> Stage<'_, '_, R> {
         print!(self.rt; "  Bay {bay} steps through")?;
         for _ in 0..PATIENCE {
             match self.desk.step(reader) {
-                Ok(step) => match step.stepped {
-                    Stepped::At(line) => print!(self.rt; " {line},")?,
-                    Stepped::Ended(outcome) => return println!(self.rt; " and ends {outcome}."),
-                },
+                Ok(
+                    Step {
+                        stepped: Stepped::At(line),
+                        ..
+                    },
+                ) => print!(self.rt; " {line},")?,
+                Ok(
+                    Step {
+                        stepped: Stepped::Ended(outcome),
+                        ..
+                    },
+                ) => return println!(self.rt; " and ends {outcome}."),
                 Err(why) => return println!(self.rt; " and is refused as {why}."),
             }
         }
@@ -90,16 +99,10 @@ impl<R: Print> Stage<'_, '_, R> {
         }
     }
 
-    /// The reader is pulled out.
-    pub(crate) fn hold(&self, reader: &Reader) -> io::Result<()> {
+    /// Tells what is done to the reader.
+    pub(crate) fn tell_of(&self, reader: &Reader, what: &str) -> io::Result<()> {
         let Reader { bay, line, .. } = *reader;
-        println!(self.rt; "  The reader in bay {bay} is pulled out, at {line}.")
-    }
-
-    /// The reader is back in its bay.
-    pub(crate) fn back(&self, reader: &Reader) -> io::Result<()> {
-        let Reader { bay, line, .. } = *reader;
-        println!(self.rt; "  The reader in bay {bay} is back, at {line}.")
+        println!(self.rt; "  The reader in bay {bay} {what}, at {line}.")
     }
 
     // Tells what stands in the book, and how many visits were stored.

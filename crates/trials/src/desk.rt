@@ -159,16 +159,12 @@ impl Desk<'_> {
     }
 
     /// Collects the call; a take's receipt is waived.
-    pub(crate) fn collect(&mut self, call: Call) -> Result<Outcome, Refusal> {
-        Ok(match self.dock.collect(call.bay, call.serial)? {
-            Collected::Full => Outcome::Full,
-            Collected::Stored => Outcome::Stored,
-            Collected::Empty => Outcome::Empty,
-            Collected::Taken(receipt) => {
-                self.waive(receipt);
-                Outcome::Taken
-            }
-        })
+    pub(crate) fn collect(&mut self, call: Call) -> Result<(), Refusal> {
+        match self.dock.collect(call.bay, call.serial)? {
+            Collected::Full | Collected::Stored | Collected::Empty => {}
+            Collected::Taken(receipt) => self.waive(receipt),
+        }
+        Ok(())
     }
 
     /// Abandons the call; a take's receipt is waived.

@@ -51,8 +51,7 @@ const FOUR_IN_ROWS: Setting = Setting {
 fn put_in(desk: &mut Desk<'_>, bay: Bay, element: u32) -> Result<(), Refusal> {
     let mut put = desk.put(bay, element)?;
     desk.finish(&mut put)?;
-    desk.collect(put)?;
-    Ok(())
+    desk.collect(put)
 }
 
 /// A put by itself.
