@@ -1,6 +1,5 @@
 // The calls of an incident, each told in print with what the dock answered.
 use crate::desk::{Desk, Reader};
-use crate::step::Step;
 use dock_rules::{Refusal, Stepped};
 use std::io;
 use visit::Visit;
@@ -70,19 +69,9 @@ impl<R: Print> Stage<'_, '_, R> {
         let bay = reader.bay;
         print!(self.rt; "  Bay {bay} steps through")?;
         for _ in 0..PATIENCE {
-            match self.desk.step(reader) {
-                Ok(
-                    Step {
-                        stepped: Stepped::At(line),
-                        ..
-                    },
-                ) => print!(self.rt; " {line},")?,
-                Ok(
-                    Step {
-                        stepped: Stepped::Ended(outcome),
-                        ..
-                    },
-                ) => return println!(self.rt; " and ends {outcome}."),
+            match self.desk.step(reader).map(|step| step.stepped) {
+                Ok(Stepped::At(line)) => print!(self.rt; " {line},")?,
+                Ok(Stepped::Ended(outcome)) => return println!(self.rt; " and ends {outcome}."),
                 Err(why) => return println!(self.rt; " and is refused as {why}."),
             }
         }
