@@ -129,6 +129,7 @@ impl<'a> Desk<'a> {
 
     /// Collects the reader's call; a take's visit goes into the book.
     pub(crate) fn collect(&mut self, reader: &Reader) -> Result<Closed, Refusal> {
+        // No `From` makes a `Closed` of a `Collected`, since the receipt in it is spent at the dock.
         Ok(match self.dock.collect(reader.bay, reader.serial)? {
             Collected::Full => Closed::Ended(Outcome::Full),
             Collected::Empty => Closed::Ended(Outcome::Empty),

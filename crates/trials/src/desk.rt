@@ -64,6 +64,17 @@ pub(crate) struct Call {
     steps: u32,
 }
 
+impl Call {
+    // The bay's call of that serial, before its first step.
+    fn new(bay: Bay, serial: u32) -> Call {
+        Call {
+            bay,
+            serial,
+            steps: 0,
+        }
+    }
+}
+
 impl From<Call> for Answer {
     fn from(call: Call) -> Answer {
         Answer::Began(call.serial)
@@ -87,21 +98,13 @@ impl Desk<'_> {
     /// Starts a put.
     pub(crate) fn put(&mut self, bay: Bay, element: u32) -> Result<Call, Refusal> {
         let serial = self.dock.put(bay, element, self.trays)?;
-        Ok(Call {
-            bay,
-            serial,
-            steps: 0,
-        })
+        Ok(Call::new(bay, serial))
     }
 
     /// Starts a take.
     pub(crate) fn take(&mut self, bay: Bay) -> Result<Call, Refusal> {
         let serial = self.dock.take(bay)?;
-        Ok(Call {
-            bay,
-            serial,
-            steps: 0,
-        })
+        Ok(Call::new(bay, serial))
     }
 
     /// Runs one line of the call.
@@ -152,10 +155,7 @@ impl Desk<'_> {
     fn waive(&mut self, receipt: Receipt)
         requires { Out self.old.dock.state receipt }
     {
-        match self.dock.waive(receipt) {
-            Ok(()) => {}
-            Err(_) => unreachable!(),
-        }
+        self.dock.waive(receipt).unwrap();
     }
 
     /// Collects the call; a take's receipt is waived.
@@ -169,6 +169,7 @@ impl Desk<'_> {
 
     /// Abandons the call; a take's receipt is waived.
     pub(crate) fn abandon(&mut self, call: Call) -> Result<Abandoned, Refusal> {
+        // No `From` makes an `Abandoned` of a `Left`, since the receipt in it is spent at the dock.
         Ok(match self.dock.abandon(call.bay, call.serial)? {
             Left::Untouched => Abandoned::Untouched,
             Left::Stored => Abandoned::Stored,
