@@ -120,10 +120,10 @@ impl<'a> Desk<'a> {
     {
         match self.dock.enter(receipt, &self.trays, &mut self.book) {
             Ok(()) => Ok(()),
-            Err((why, back)) => match self.dock.waive(back) {
-                Ok(()) => Err(why),
-                Err(_) => unreachable!(),
-            },
+            Err((why, back)) => {
+                self.dock.waive(back).unwrap();
+                Err(why)
+            }
         }
     }
 

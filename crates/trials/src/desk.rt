@@ -1,8 +1,6 @@
 // The desk of a dock's caller, and the calls that are made from it.
-ghost use Rattle.dock.specs.Answered.{Out};
-
 use board::{Board, BoardKind};
-use dock::{Collected, Dock, Left, Receipt};
+use dock::{Collected, Dock, Left};
 use dock_rules::{Abandoned, Line, Outcome, Refusal, Stepped};
 use slot_memory::Bay;
 use std::fmt;
@@ -151,18 +149,11 @@ impl Desk<'_> {
         self.run(call, None)
     }
 
-    // Spends a receipt that is out.
-    fn waive(&mut self, receipt: Receipt)
-        requires { Out self.old.dock.state receipt }
-    {
-        self.dock.waive(receipt).unwrap();
-    }
-
     /// Collects the call; a take's receipt is waived.
     pub(crate) fn collect(&mut self, call: Call) -> Result<(), Refusal> {
         match self.dock.collect(call.bay, call.serial)? {
             Collected::Full | Collected::Stored | Collected::Empty => {}
-            Collected::Taken(receipt) => self.waive(receipt),
+            Collected::Taken(receipt) => self.dock.waive(receipt).unwrap(),
         }
         Ok(())
     }
@@ -174,7 +165,7 @@ impl Desk<'_> {
             Left::Untouched => Abandoned::Untouched,
             Left::Stored => Abandoned::Stored,
             Left::Taken(receipt) => {
-                self.waive(receipt);
+                self.dock.waive(receipt).unwrap();
                 Abandoned::Taken
             }
         })
