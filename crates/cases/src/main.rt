@@ -2,9 +2,10 @@
 // tells of each whether the output is the one that is kept.
 #![tactic(auto)]
 
-ghost use Rattle.std.specs.Prelude.{◌≡◌, None};
+ghost use Rattle.std.specs.Prelude.{◌≡◌, ◌↔◌, IsNone};
 
 use schedule::run_text;
+use std::rt::Files;
 use std::{fs, io};
 
 /// The file that has the names of the cases, one to a line. It stands with the cases in the folder where
@@ -13,45 +14,36 @@ const NAMES: &str = "names";
 
 // Where two texts differ first, if they do.
 fn difference(one: &[u8], other: &[u8]) -> Option<usize>
-    ensures { result ≡ None → one.now ≡ other.now }
+    ensures { IsNone result ↔ (one.now ≡ other.now) }
 {
     if one == other {
         return None;
     }
-    for (place, (a, b)) in one.iter().zip(other.iter()).enumerate() {
-        if a != b {
-            return Some(place);
-        }
-    }
-    Some(one.len().min(other.len()))
+    let shorter = one.len().min(other.len());
+    let place = one.iter().zip(other).position(|(a, b)| a != b);
+    Some(place.unwrap_or(shorter))
 }
 
 // Runs the case of that name, and tells whether its output is the one that is kept. Answers that too.
-fn judge(rt: &HostRuntime, name: &str) -> io::Result<bool> {
+fn judge(rt: &(impl Files + AllocGlobal + Print), name: &str) -> io::Result<bool> {
     let text = fs::read(rt, format!(in rt.alloc(); "{name}.in")?)?;
     let kept = fs::read(rt, format!(in rt.alloc(); "{name}.out")?)?;
     let output = run_text(rt.alloc(), text.as_slice())?;
-    match difference(output.as_bytes(), kept.as_slice()) {
-        None => {
-            println!(rt; "{name}: as expected")?;
-            Ok(true)
-        }
-        Some(place) => {
-            println!(rt; "{name}: DIFFERS at byte {place}")?;
-            Ok(false)
-        }
+    let difference = difference(output.as_bytes(), kept.as_slice());
+    match difference {
+        None => println!(rt; "{name}: as expected")?,
+        Some(place) => println!(rt; "{name}: DIFFERS at byte {place}")?,
     }
+    Ok(difference.is_none())
 }
 
 fn main(rt: HostRuntime) -> io::Result<()> {
     let names = fs::read_to_string(&rt, NAMES)?;
-    let mut all = 0u32;
-    let mut good = 0u32;
-    for name in names.lines() {
-        all = all.saturating_add(1);
-        if judge(&rt, name)? {
-            good = good.saturating_add(1);
-        }
-    }
+    let judged: Vec<bool> = names
+        .lines()
+        .map(|name| judge(&rt, name))
+        .try_collect(rt.alloc())?;
+    let good = judged.iter().filter(|good| **good).count();
+    let all = judged.len();
     println!(rt; "{good} of {all}")
 }

@@ -8,55 +8,6 @@ use std::fmt::Display;
 use std::io;
 use visit::Visit;
 
-/// One of the two elements that a story is told with.
-#[derive(Clone, Copy)]
-enum Pick {
-    First,
-    Second,
-}
-
-/// What a bay does.
-#[derive(Clone, Copy)]
-enum Act {
-    /// Marks a slot and looks what it holds.
-    Look(Bay, u32),
-    /// Marks an index and looks what it is.
-    LookAt(Bay, Index),
-    Fill(Bay, u32, Pick),
-    Empty(Bay, u32),
-    /// Stores a number in an index.
-    Move(Bay, Index, u32),
-}
-
-/// The first store kills the other bay's mark.
-const ONE_SLOT: [Act; 5] = [
-    Act::Look(0, 0),
-    Act::Look(1, 0),
-    Act::Fill(0, 0, Pick::First),
-    Act::Fill(1, 0, Pick::Second),
-    Act::Look(1, 0),
-];
-
-/// A board with rows balks at a store beside the one that it accepted.
-const NEIGHBOURS: [Act; 5] = [
-    Act::LookAt(0, Index::Tail),
-    Act::LookAt(1, Index::Head),
-    Act::Move(1, Index::Head, 8),
-    Act::Move(0, Index::Tail, 8),
-    Act::LookAt(0, Index::Tail),
-];
-
-/// The slot is empty as it was, and the old mark is dead all the same.
-const OLD_MARK: [Act; 7] = [
-    Act::Look(0, 1),
-    Act::Look(1, 1),
-    Act::Fill(1, 1, Pick::First),
-    Act::Look(1, 1),
-    Act::Empty(1, 1),
-    Act::Fill(0, 1, Pick::Second),
-    Act::Look(0, 1),
-];
-
 fn word(answer: Stored) -> &'static str {
     match answer {
         Stored::Accepted => "accepted",
@@ -64,87 +15,119 @@ fn word(answer: Stored) -> &'static str {
     }
 }
 
-// Does one act on the memory, and tells what came of it.
-fn perform<M: SlotMemory>(
-    rt: &HostRuntime,
-    memory: &mut M,
-    act: Act,
+/// A memory on which two bays contend, and the two elements that they store.
+#[derive(Drop)]
+struct Stage<'a, R: Print, M: SlotMemory> {
+    rt: &'a R,
+    memory: M,
     first: M::Element,
     second: M::Element,
-) -> io::Result<()>
+}
+
+impl<R: Print, M: SlotMemory> Stage<'_, R, M>
 where
     M::Element: Display,
 {
-    match act {
-        Act::Look(bay, slot) => match memory.mark_slot(bay, slot) {
-            Some(held) => println!(rt; "  Bay {bay} marks slot {slot} and finds {held}."),
-            None => println!(rt; "  Bay {bay} marks slot {slot} and finds it empty."),
-        },
-        Act::LookAt(bay, index) => {
-            let number = memory.mark_index(bay, index);
-            println!(rt; "  Bay {bay} marks {index:?} and finds {number}.")
+    // Marks a slot, and tells what it holds.
+    fn look(&mut self, bay: Bay, slot: u32) -> io::Result<()> {
+        match self.memory.mark_slot(bay, slot) {
+            Some(held) => println!(self.rt; "  Bay {bay} marks slot {slot} and finds {held}."),
+            None => println!(self.rt; "  Bay {bay} marks slot {slot} and finds it empty."),
         }
-        Act::Fill(bay, slot, pick) => {
-            let element = match pick {
-                Pick::First => first,
-                Pick::Second => second,
-            };
-            let answer = word(memory.fill_slot(bay, slot, element));
-            println!(rt; "  Bay {bay} stores {element} in slot {slot}: {answer}.")
-        }
-        Act::Empty(bay, slot) => {
-            let answer = word(memory.empty_slot(bay, slot));
-            println!(rt; "  Bay {bay} empties slot {slot}: {answer}.")
-        }
-        Act::Move(bay, index, number) => {
-            let answer = word(memory.store_index(bay, index, number));
-            println!(rt; "  Bay {bay} stores {number} in {index:?}: {answer}.")
-        }
+    }
+
+    // Marks an index, and tells what it is.
+    fn look_at(&mut self, bay: Bay, index: Index) -> io::Result<()> {
+        let number = self.memory.mark_index(bay, index);
+        println!(self.rt; "  Bay {bay} marks {index:?} and finds {number}.")
+    }
+
+    // Stores an element in a slot, and tells the answer.
+    fn fill(&mut self, bay: Bay, slot: u32, element: M::Element) -> io::Result<()> {
+        let answer = word(self.memory.fill_slot(bay, slot, element));
+        println!(self.rt; "  Bay {bay} stores {element} in slot {slot}: {answer}.")
+    }
+
+    // Empties a slot, and tells the answer.
+    fn empty(&mut self, bay: Bay, slot: u32) -> io::Result<()> {
+        let answer = word(self.memory.empty_slot(bay, slot));
+        println!(self.rt; "  Bay {bay} empties slot {slot}: {answer}.")
+    }
+
+    // Stores a number in an index, and tells the answer.
+    fn move_to(&mut self, bay: Bay, index: Index, number: u32) -> io::Result<()> {
+        let answer = word(self.memory.store_index(bay, index, number));
+        println!(self.rt; "  Bay {bay} stores {number} in {index:?}: {answer}.")
+    }
+
+    // The first store kills the other bay's mark.
+    fn one_slot(&mut self) -> io::Result<()> {
+        println!(self.rt; " Two bays and one slot:")?;
+        self.look(0, 0)?;
+        self.look(1, 0)?;
+        self.fill(0, 0, self.first)?;
+        self.fill(1, 0, self.second)?;
+        self.look(1, 0)
+    }
+
+    // A board with rows balks at a store beside the one that it accepted.
+    fn neighbours(&mut self) -> io::Result<()> {
+        println!(self.rt; " A mark on Tail while a store goes into Head:")?;
+        self.look_at(0, Index::Tail)?;
+        self.look_at(1, Index::Head)?;
+        self.move_to(1, Index::Head, 8)?;
+        self.move_to(0, Index::Tail, 8)?;
+        self.look_at(0, Index::Tail)
+    }
+
+    // The slot is empty as it was, and the old mark is dead all the same.
+    fn old_mark(&mut self) -> io::Result<()> {
+        println!(self.rt; " An old mark on a slot that was filled and emptied again:")?;
+        self.look(0, 1)?;
+        self.look(1, 1)?;
+        self.fill(1, 1, self.first)?;
+        self.look(1, 1)?;
+        self.empty(1, 1)?;
+        self.fill(0, 1, self.second)?;
+        self.look(0, 1)
+    }
+
+    // Clears the memory, and plays the three scenes.
+    fn play(&mut self, name: &str) -> io::Result<()> {
+        self.memory.clear(7);
+        let slots = self.memory.length();
+        println!(self.rt; "The {name} memory, {slots} slots, both indices 7.")?;
+        self.one_slot()?;
+        self.neighbours()?;
+        self.old_mark()
     }
 }
 
-fn play<M: SlotMemory>(
-    rt: &HostRuntime,
-    memory: &mut M,
-    acts: &[Act],
-    first: M::Element,
-    second: M::Element,
-) -> io::Result<()>
-where
-    M::Element: Display,
-{
-    for act in acts {
-        perform(rt, memory, *act, first, second)?;
+// The same scenes over either memory, with any two elements. Each memory is lent the slots.
+fn play_both<E: Copy + Display>(
+    rt: &impl Print,
+    slots: &mut [Option<E>],
+    first: E,
+    second: E,
+) -> io::Result<()> {
+    Stage {
+        rt,
+        memory: MarkMemory::new(slots),
+        first,
+        second,
     }
-    Ok(())
-}
-
-// The same three scenes over any memory, with any two elements.
-fn tell<M: SlotMemory>(
-    rt: &HostRuntime,
-    name: &str,
-    memory: &mut M,
-    first: M::Element,
-    second: M::Element,
-) -> io::Result<()>
-where
-    M::Element: Display,
-{
-    memory.clear(7);
-    let slots = memory.length();
-    println!(rt; "The {name} memory, {slots} slots, both indices 7.")?;
-    println!(rt; " Two bays and one slot:")?;
-    play(rt, memory, &ONE_SLOT, first, second)?;
-    println!(rt; " A mark on Tail while a store goes into Head:")?;
-    play(rt, memory, &NEIGHBOURS, first, second)?;
-    println!(rt; " An old mark on a slot that was filled and emptied again:")?;
-    play(rt, memory, &OLD_MARK, first, second)
+    .play("mark")?;
+    Stage {
+        rt,
+        memory: RowMemory::new(slots),
+        first,
+        second,
+    }
+    .play("row")
 }
 
 fn main(rt: HostRuntime) -> io::Result<()> {
-    let mut words = [None; 2];
-    tell(&rt, "mark", &mut MarkMemory::new(&mut words), 5u32, 6)?;
-    tell(&rt, "row", &mut RowMemory::new(&mut words), 5u32, 6)?;
+    play_both(&rt, &mut [None; 2], 5u32, 6)?;
     let early = Visit {
         guard: 12,
         checkpoint: 3,
@@ -155,7 +138,5 @@ fn main(rt: HostRuntime) -> io::Result<()> {
         checkpoint: 3,
         minute: 611,
     };
-    let mut visits = [None; 2];
-    tell(&rt, "mark", &mut MarkMemory::new(&mut visits), early, late)?;
-    tell(&rt, "row", &mut RowMemory::new(&mut visits), early, late)
+    play_both(&rt, &mut [None; 2], early, late)
 }

@@ -1,139 +1,148 @@
-// The desk of a dock's caller: trays, a book of visits, and a note of each bay's call.
+// A dock of two bays, what its caller keeps, and the calls that the readers in its bays make.
 ghost use Rattle.std.specs.Prelude.{◌<◌};
 ghost use Rattle.dock.specs.Answered.{Out};
 
+use crate::step::Step;
 use dock::{Book, Collected, Dock, Receipt};
 use dock_rules::{Line, Outcome, Refusal, Stepped};
 use mark_memory::MarkMemory;
 use slot_memory::Bay;
+use std::fmt;
 use visit::Visit;
 
-/// A dock of visits over the mark memory.
-pub(crate) type VisitDock<'a> = Dock<MarkMemory<'a, Visit>>;
-
-/// What the caller notes of a bay's last started call: its serial, and the line where it stands.
-#[derive(Clone, Copy)]
-pub(crate) struct Noted {
-    pub(crate) serial: u32,
+/// The reader in one of the two bays, with a note of the last call that it started.
+#[derive(Drop)]
+pub(crate) struct Reader {
+    pub(crate) bay: Bay,
+    serial: u32,
+    /// The line where the call stands.
     pub(crate) line: Line,
+    ghost in_dock: { bay < 2 },
 }
 
-/// What the dock's caller keeps.
+/// A dock of visits over the mark memory, and what its caller keeps.
 #[derive(Drop)]
 pub(crate) struct Desk<'a> {
-    pub(crate) trays: [Visit; 2],
+    dock: Dock<MarkMemory<'a, Visit>>,
+    trays: [Visit; 2],
     pub(crate) book: Book<'a, Visit>,
-    pub(crate) noted: [Noted; 2],
     /// How many puts were collected as STORED.
     pub(crate) stored: u32,
 }
 
-/// What came of a collect.
+/// A visit that is entered in the book.
+#[derive(Clone, Copy)]
+pub(crate) struct Entry {
+    visit: Visit,
+    /// Its place in the book, counted from 1.
+    number: usize,
+}
+
+/// What came of a collected call.
+#[derive(Clone, Copy)]
 pub(crate) enum Closed {
-    /// The call ended so, and the bay is free.
+    /// The call has ended so, with nothing in the tray.
     Ended(Outcome),
-    /// The take's visit is entered in the book.
-    Entered(Visit),
-    /// The take's visit found no place in the book, and was waived.
-    Waived(Refusal),
+    /// The take's visit is entered in the book, or waived since the book refused it.
+    Taken(Result<Entry, Refusal>),
 }
 
-// The bay's place in a row of two: bay 0 has the first, any other the second.
-fn place(bay: Bay) -> usize
-    ensures { result < 2 }
-{
-    if bay == 0 { 0 } else { 1 }
+impl fmt::Display for Closed {
+    fn fmt<W: fmt::Write>(&self, f: &mut fmt::Formatter<W>) -> fmt::Result {
+        match *self {
+            Closed::Ended(outcome) => write!(f, "{outcome}"),
+            Closed::Taken(Ok(Entry { visit, number })) => {
+                write!(f, "TAKEN, and {visit} is number {number} in the book")
+            }
+            Closed::Taken(Err(why)) => {
+                write!(f, "TAKEN, and waived, since the book is refused as {why}")
+            }
+        }
+    }
 }
 
-impl Desk<'_> {
-    /// What lies in the bay's tray.
-    pub(crate) fn tray(&self, bay: Bay) -> Visit {
-        self.trays[place(bay)]
+impl Reader {
+    /// The reader in that bay.
+    pub(crate) fn new(bay: Bay) -> Reader
+        requires { bay < 2 }
+    {
+        Reader {
+            bay,
+            serial: 0,
+            line: Line::E5,
+        }
+    }
+}
+
+impl<'a> Desk<'a> {
+    /// A shut dock over the slots, with empty trays and an empty book.
+    pub(crate) fn new(slots: &'a mut [Option<Visit>], row: &'a mut [Visit]) -> Desk<'a> {
+        Desk {
+            dock: Dock::new(MarkMemory::new(slots)),
+            trays: [Visit::default(); 2],
+            book: Book { row, entered: 0 },
+            stored: 0,
+        }
     }
 
-    /// The note of the bay's call.
-    pub(crate) fn noted(&self, bay: Bay) -> Noted {
-        self.noted[place(bay)]
-    }
-
-    // Writes the note of the bay's call.
-    fn note(&mut self, bay: Bay, noted: Noted) {
-        self.noted[place(bay)] = noted;
+    /// Opens the dock with two bays.
+    pub(crate) fn open(&mut self) -> Result<(), Refusal> {
+        self.dock.open(2, 100, 0)
     }
 
     /// Starts a put, and notes it.
-    pub(crate) fn put(
-        &mut self,
-        dock: &mut VisitDock<'_>,
-        bay: Bay,
-        visit: Visit,
-    ) -> Result<u32, Refusal> {
-        let serial = dock.put(bay, visit, &mut self.trays)?;
-        self.note(
-            bay,
-            Noted {
-                serial,
-                line: Line::E5,
-            },
-        );
-        Ok(serial)
+    pub(crate) fn put(&mut self, reader: &mut Reader, visit: Visit) -> Result<u32, Refusal> {
+        reader.serial = self.dock.put(reader.bay, visit, &mut self.trays)?;
+        reader.line = Line::E5;
+        Ok(reader.serial)
     }
 
     /// Starts a take, and notes it.
-    pub(crate) fn take(&mut self, dock: &mut VisitDock<'_>, bay: Bay) -> Result<u32, Refusal> {
-        let serial = dock.take(bay)?;
-        self.note(
-            bay,
-            Noted {
-                serial,
-                line: Line::D5,
-            },
-        );
-        Ok(serial)
+    pub(crate) fn take(&mut self, reader: &mut Reader) -> Result<u32, Refusal> {
+        reader.serial = self.dock.take(reader.bay)?;
+        reader.line = Line::D5;
+        Ok(reader.serial)
     }
 
     /// Steps, and notes where the call stands then.
-    pub(crate) fn step(&mut self, dock: &mut VisitDock<'_>, bay: Bay) -> Result<Stepped, Refusal> {
-        let stepped = dock.step(bay, &mut self.trays)?;
+    pub(crate) fn step(&mut self, reader: &mut Reader) -> Result<Step, Refusal> {
+        let from = reader.line;
+        let stepped = self.dock.step(reader.bay, &mut self.trays)?;
         if let Stepped::At(line) = stepped {
-            let serial = self.noted(bay).serial;
-            self.note(bay, Noted { serial, line });
+            reader.line = line;
         }
-        Ok(stepped)
+        Ok(Step { from, stepped })
     }
 
     // Enters the receipt's visit in the book, or waives it where that is refused.
-    fn settle(&mut self, dock: &mut VisitDock<'_>, receipt: Receipt) -> Result<(), Refusal>
-        requires { Out dock.old.state receipt }
+    fn settle(&mut self, receipt: Receipt) -> Result<(), Refusal>
+        requires { Out self.old.dock.state receipt }
     {
-        match dock.enter(receipt, &self.trays, &mut self.book) {
+        match self.dock.enter(receipt, &self.trays, &mut self.book) {
             Ok(()) => Ok(()),
-            Err((why, back)) => match dock.waive(back) {
-                Ok(()) => Err(why),
-                Err(_) => unreachable(),
-            },
+            Err((why, back)) => {
+                self.dock.waive(back).unwrap();
+                Err(why)
+            }
         }
     }
 
-    /// Collects the bay's call; a take's visit goes into the book.
-    pub(crate) fn collect(
-        &mut self,
-        dock: &mut VisitDock<'_>,
-        bay: Bay,
-    ) -> Result<Closed, Refusal> {
-        let serial = self.noted(bay).serial;
-        let closed = match dock.collect(bay, serial)? {
+    /// Collects the reader's call; a take's visit goes into the book.
+    pub(crate) fn collect(&mut self, reader: &Reader) -> Result<Closed, Refusal> {
+        // No `From` makes a `Closed` of a `Collected`, since the receipt in it is spent at the dock.
+        Ok(match self.dock.collect(reader.bay, reader.serial)? {
             Collected::Full => Closed::Ended(Outcome::Full),
             Collected::Empty => Closed::Ended(Outcome::Empty),
             Collected::Stored => {
                 self.stored = self.stored.saturating_add(1);
                 Closed::Ended(Outcome::Stored)
             }
-            Collected::Taken(receipt) => match self.settle(dock, receipt) {
-                Ok(()) => Closed::Entered(self.tray(bay)),
-                Err(why) => Closed::Waived(why),
-            },
-        };
-        Ok(closed)
+            Collected::Taken(receipt) => Closed::Taken(
+                self.settle(receipt).map(|()| Entry {
+                    visit: self.trays[reader.bay as usize],
+                    number: self.book.entered,
+                }),
+            ),
+        })
     }
 }

@@ -1,23 +1,8 @@
-// The two incidents, as what each bay does.
-use slot_memory::Bay;
+// The two incidents, as what is done in each bay and to its reader.
+use crate::desk::Reader;
+use crate::telling::Stage;
+use std::io;
 use visit::Visit;
-
-/// What a bay does, or what is done to its reader.
-#[derive(Clone, Copy)]
-pub(crate) enum Act {
-    Put(Bay, Visit),
-    Take(Bay),
-    /// So many steps, each told.
-    Steps(Bay, u8),
-    /// Steps until the call ends, told in one line.
-    Through(Bay),
-    /// Collects the call; a take's visit is entered in the book.
-    Collect(Bay),
-    /// The reader is pulled out.
-    Hold(Bay),
-    /// The reader is back in its bay.
-    Back(Bay),
-}
 
 /// The timber yard's visit in bay 0.
 const YARD_FIRST: Visit = Visit {
@@ -54,53 +39,61 @@ const DEPOT_HELD: Visit = Visit {
     minute: 97,
 };
 
+impl<R: Print> Stage<'_, '_, R> {
+    // Steps to the end of the call, and collects it.
+    fn finish(&mut self, reader: &mut Reader) -> io::Result<()> {
+        self.through(reader)?;
+        self.collect(reader)
+    }
+
+    // A put from its start to its end.
+    fn put_whole(&mut self, reader: &mut Reader, visit: Visit) -> io::Result<()> {
+        self.put(reader, visit)?;
+        self.finish(reader)
+    }
+
+    // A take from its start to its end.
+    fn take_whole(&mut self, reader: &mut Reader) -> io::Result<()> {
+        self.take(reader)?;
+        self.finish(reader)
+    }
+}
+
 /// Bay 0 has stored and is held before it can move the tail. Bay 1 moves it and stores behind. Then both
 /// visits are taken.
-pub(crate) const TIMBER_YARD: [Act; 15] = [
-    Act::Put(0, YARD_FIRST),
-    Act::Steps(0, 5),
-    Act::Hold(0),
-    Act::Put(1, YARD_SECOND),
-    Act::Steps(1, 13),
-    Act::Collect(1),
-    Act::Back(0),
-    Act::Steps(0, 1),
-    Act::Collect(0),
-    Act::Take(1),
-    Act::Through(1),
-    Act::Collect(1),
-    Act::Take(0),
-    Act::Through(0),
-    Act::Collect(0),
-];
+pub(crate) fn timber_yard<R: Print>(stage: &mut Stage<'_, '_, R>) -> io::Result<()> {
+    let mut held = Reader::new(0);
+    let mut other = Reader::new(1);
+    stage.put(&mut held, YARD_FIRST)?;
+    stage.steps(&mut held, 5)?;
+    stage.tell_of(&held, "is pulled out")?;
+    stage.put(&mut other, YARD_SECOND)?;
+    stage.steps(&mut other, 13)?;
+    stage.collect(&other)?;
+    stage.tell_of(&held, "is back")?;
+    stage.steps(&mut held, 1)?;
+    stage.collect(&held)?;
+    stage.take_whole(&mut other)?;
+    stage.take_whole(&mut held)
+}
 
 /// Bay 1 has found its slot free and is held before it can store. Bay 0 fills the ring and empties it. Bay
 /// 1 is back and must start over, and a take shows that nothing went in behind the head. Then its visit
 /// goes in after the others, and is taken.
-pub(crate) const BUS_DEPOT: [Act; 25] = [
-    Act::Put(1, DEPOT_HELD),
-    Act::Steps(1, 4),
-    Act::Hold(1),
-    Act::Put(0, DEPOT_FIRST),
-    Act::Through(0),
-    Act::Collect(0),
-    Act::Put(0, DEPOT_SECOND),
-    Act::Through(0),
-    Act::Collect(0),
-    Act::Take(0),
-    Act::Through(0),
-    Act::Collect(0),
-    Act::Take(0),
-    Act::Through(0),
-    Act::Collect(0),
-    Act::Back(1),
-    Act::Steps(1, 1),
-    Act::Take(0),
-    Act::Through(0),
-    Act::Collect(0),
-    Act::Steps(1, 7),
-    Act::Collect(1),
-    Act::Take(0),
-    Act::Through(0),
-    Act::Collect(0),
-];
+pub(crate) fn bus_depot<R: Print>(stage: &mut Stage<'_, '_, R>) -> io::Result<()> {
+    let mut other = Reader::new(0);
+    let mut held = Reader::new(1);
+    stage.put(&mut held, DEPOT_HELD)?;
+    stage.steps(&mut held, 4)?;
+    stage.tell_of(&held, "is pulled out")?;
+    stage.put_whole(&mut other, DEPOT_FIRST)?;
+    stage.put_whole(&mut other, DEPOT_SECOND)?;
+    stage.take_whole(&mut other)?;
+    stage.take_whole(&mut other)?;
+    stage.tell_of(&held, "is back")?;
+    stage.steps(&mut held, 1)?;
+    stage.take_whole(&mut other)?;
+    stage.steps(&mut held, 7)?;
+    stage.collect(&held)?;
+    stage.take_whole(&mut other)
+}

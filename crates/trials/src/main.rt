@@ -2,39 +2,27 @@
 // in print: for each what it shows, and what the dock answered.
 #![tactic(auto)]
 
-use desk::play;
 use std::io;
-use table::{TRIALS, Trial};
 
 mod desk;
-mod table;
-
-// Runs a trial's plays and tells what came of each. Answers whether all came out as they should.
-fn tell(rt: &HostRuntime, number: usize, trial: &Trial) -> io::Result<bool> {
-    let shows = trial.shows;
-    println!(rt; "{number}. {shows}")?;
-    let mut good = true;
-    for one in trial.plays {
-        let tells = one.tells;
-        let due = one.due;
-        let came = play(one.setting, one.acts);
-        if came == due {
-            println!(rt; "   {tells}: {came}")?;
-        } else {
-            println!(rt; "   {tells}: {came}, and should be {due}")?;
-            good = false;
-        }
-    }
-    Ok(good)
-}
+mod plays;
+mod telling;
 
 fn main(rt: HostRuntime) -> io::Result<()> {
-    let all = TRIALS.len();
-    let mut good = 0u32;
-    for (number, trial) in (1..).zip(TRIALS.iter()) {
-        if tell(&rt, number, trial)? {
-            good = good.saturating_add(1);
-        }
-    }
+    let trials = [
+        plays::put_alone(&rt)?,
+        plays::take_alone(&rt)?,
+        plays::put_on_full(&rt)?,
+        plays::take_on_new(&rt)?,
+        plays::take_beside_held(&rt)?,
+        plays::put_helps_held(&rt)?,
+        plays::take_beside_put(&rt)?,
+        plays::put_beside_take(&rt)?,
+        plays::put_at_top(&rt)?,
+        plays::put_given_up(&rt)?,
+        plays::limits(&rt)?,
+    ];
+    let good = trials.iter().filter(|good| **good).count();
+    let all = trials.len();
     println!(rt; "{good} of {all} as they should be")
 }

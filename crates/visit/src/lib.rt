@@ -7,7 +7,7 @@ ghost use Rattle.visit.specs.Written.{written};
 use std::fmt;
 
 /// One visit of a guard to a checkpoint.
-#[derive(Clone, Copy, Debug, PartialEq, Eq)]
+#[derive(Clone, Copy, Debug, PartialEq, Eq, Default)]
 pub struct Visit {
     pub guard: u16,
     pub checkpoint: u16,
