@@ -1,5 +1,5 @@
 -- The free results that a memory over cells takes are among those that may be. Assumes nothing.
-use Rattle.std.proofs.Common.{◌≡◌, ℕ, ◌<◌, ◌≤◌, Bool, true, false, cond, not, ◌&&◌, ltb, List, map, get_or, set, Some, None, MatchBool, Option, sym, refl, ap, ◌∙◌, arith}
+use Rattle.std.proofs.Common.{◌≡◌, ℕ, ◌<◌, ◌≤◌, Bool, true, false, cond, not, ◌&&◌, ltb, List, map, length, get_or, set, Some, None, MatchBool, Option, sym, refl, ap, ◌∙◌, arith}
 use Rattle.std.proofs.lemmas.List.{length-map}
 use Rattle.slot_memory.specs.declared.Cell.{Cell}
 use Rattle.std.proofs.lemmas.Bool.{ltb-true, and_parts}
@@ -16,13 +16,13 @@ use Rattle.cell_memory.proofs.Spoilt.{worth, spoilt_set, spoilt_less, marked_cel
 abbrev counted : Bool → ℕ
 counted t = cond t 1 0
 
-module _ {K : Type 0} (k : Ghosts K) (laws : Laws k) {E : Type 0} (m : CellMemory E K) where
+module _ {K : Type 0} (k : Ghosts K) (laws : Laws k) {E : Type 0} (m : CellMemory E K) (sixteen : length m.marks.bays ≡ 16) where
   -- the storing bay's mark goes with the others on the cell, so that at most fifteen are left
   accepted_spare : (b : ℕ) (c : Cell) → b < 16 → is_on c (cell_of k (get_or m.marks.bays b None)) ≡ true → spoilt_in k (map (struck k c) m.marks.bays) ≤ 15
   accepted_spare b c h e =
       let long = length-map m.marks.bays (struck k c) in
       let none = ap (is_spoilt k) (get_or-struck k c m.marks.bays b) ∙ struck_own k laws c (get_or m.marks.bays b None) e in
-      omega (arith, m.marks.sixteen, spoilt_less k (map (struck k c) m.marks.bays) b (omega (arith, m.marks.sixteen, long)) none)
+      omega (arith, spoilt_less k (map (struck k c) m.marks.bays) b (omega (arith, long)) none)
 
   abbrev stored-marks : ℕ → Cell → Bool → List (Option K)
   stored-marks b c accepted = cond accepted (map (struck k c) m.marks.bays) (set m.marks.bays b None)
@@ -37,9 +37,9 @@ module _ {K : Type 0} (k : Ghosts K) (laws : Laws k) {E : Type 0} (m : CellMemor
   may_store_lem : (b : ℕ) (c : Cell) (l s : Bool) → b < 16 → live (meaning_of k m) b c ≡ l → balks k m.marks.bays b ≡ s → MayStore 15 (meant true) l (record { refuse = s; spare = spoilt_in k (stored-marks b c (l && not s)) })
   may_store_lem b c true true h on spoilt =
       let one : worth k (get_or m.marks.bays b None) ≡ 1 = ap counted spoilt in
-      omega (arith, m.marks.sixteen, spoilt_set k m.marks.bays b None (omega arith))
+      omega (arith, spoilt_set k m.marks.bays b None (omega arith))
   may_store_lem b c true false h on spoilt = accepted_spare b c h (ap (is_on c) (sym (marked_cell k m.marks.bays b)) ∙ on)
-  may_store_lem b c false s h on spoilt = omega (arith, m.marks.sixteen, spoilt_set k m.marks.bays b None (omega arith))
+  may_store_lem b c false s h on spoilt = omega (arith, spoilt_set k m.marks.bays b None (omega arith))
 
   may-balk : (o : Operation E) → May 15 (meant true) o (taken true o)
   may-balk (Clear base) = omega arith
@@ -49,7 +49,7 @@ module _ {K : Type 0} (k : Ghosts K) (laws : Laws k) {E : Type 0} (m : CellMemor
       go : (t : Bool) → known (meaning_of k m) b c ≡ t → MatchBool t (spoilt_in k (cond t (set m.marks.bays b (Some (k.made c))) m.marks.bays) ≤ spoilt_in k m.marks.bays) (Unit {0})
       go true e =
           let none : worth k (Some (k.made c)) ≡ 0 = ap counted (laws.sound c) in
-          omega (arith, m.marks.sixteen, spoilt_set k m.marks.bays b (Some (k.made c)) (omega (arith, ltb-true b 16 (and_parts (ltb b 16) _ e).0)))
+          omega (arith, spoilt_set k m.marks.bays b (Some (k.made c)) (omega (arith, ltb-true b 16 (and_parts (ltb b 16) _ e).0)))
       go false e = tt
   may-balk (Store b w) = go (known (meaning_of k m) b (target w)) refl
     where

@@ -6,10 +6,10 @@ use crate::Marking;
 use slot_memory::{Bay, Cell};
 
 /// For each bay its mark.
+// That there are 16 can't be a ghost field, as a cut in `Lent` can't be.
 #[derive(Drop)]
 pub struct Marks<K: Copy> {
     bays: [Option<K>; 16],
-    ghost sixteen: { length bays ≡ 16 },
 }
 
 // What an accepted store on the cell leaves of a bay's mark.
@@ -30,7 +30,8 @@ impl<K: Marking> Marks<K> {
     /// Moves the bay's mark to the cell.
     pub(crate) fn make(&mut self, bay: Bay, cell: Cell)
         requires { bay < 16 }
-        ensures { self.new.bays ≡ slice_set self.old.bays bay (Some (K.made cell)) }
+        ensures long { length self.old.bays ≡ 16 }
+        ensures made { self.new.bays ≡ slice_set self.old.bays bay (Some (K.made cell)) }
     {
         self.bays[bay as usize] = Some(K::on(cell));
     }
@@ -48,6 +49,7 @@ impl<K: Marking> Marks<K> {
     /// bay's own goes.
     pub(crate) fn settle(&mut self, bay: Bay, cell: Cell) -> bool
         requires { bay < 16 }
+        ensures long { length self.old.bays ≡ 16 }
         ensures accepted { result ≡ accepts K.Marking self.old.bays bay cell }
         ensures after { self.new.bays ≡ (if result then map (struck K.Marking cell) self.old.bays else slice_set self.old.bays bay None) }
     {

@@ -3,17 +3,10 @@
 
 use mark_memory::MarkMemory;
 use row_memory::RowMemory;
-use slot_memory::{Bay, Index, SlotMemory, Stored};
+use slot_memory::{Bay, Index, SlotMemory};
 use std::fmt::Display;
 use std::io;
 use visit::Visit;
-
-fn word(answer: Stored) -> &'static str {
-    match answer {
-        Stored::Accepted => "accepted",
-        Stored::Refused => "refused",
-    }
-}
 
 /// A memory on which two bays contend, and the two elements that they store.
 #[derive(Drop)]
@@ -44,19 +37,19 @@ where
 
     // Stores an element in a slot, and tells the answer.
     fn fill(&mut self, bay: Bay, slot: u32, element: M::Element) -> io::Result<()> {
-        let answer = word(self.memory.fill_slot(bay, slot, element));
+        let answer = self.memory.store_slot(bay, slot, Some(element));
         println!(self.rt; "  Bay {bay} stores {element} in slot {slot}: {answer}.")
     }
 
     // Empties a slot, and tells the answer.
     fn empty(&mut self, bay: Bay, slot: u32) -> io::Result<()> {
-        let answer = word(self.memory.empty_slot(bay, slot));
+        let answer = self.memory.store_slot(bay, slot, None);
         println!(self.rt; "  Bay {bay} empties slot {slot}: {answer}.")
     }
 
     // Stores a number in an index, and tells the answer.
     fn move_to(&mut self, bay: Bay, index: Index, number: u32) -> io::Result<()> {
-        let answer = word(self.memory.store_index(bay, index, number));
+        let answer = self.memory.store_index(bay, index, number);
         println!(self.rt; "  Bay {bay} stores {number} in {index:?}: {answer}.")
     }
 

@@ -10,4 +10,4 @@ abbrev pub used : {E : Type 0} → List (Option E) → List (Option E)
 used row = take most_slots row
 
 abbrev pub contents : {E : Type 0} → Lent E → List (Option E)
-contents l = l.row.now
+contents l = used l.row.now

@@ -13,5 +13,5 @@ returns g c =
     let laws = g.met.K.Marking.laws in
     let known = sym c.if-not-knows.ensures.known in
     let n : CellMemory _ _ = record { slots = m.slots; tail = m.tail; head = m.head; marks = c.make.new.self } in
-    let e = marked_exactly k laws m n c.args.bay (Slot c.args.slot) (Content c.get.result) known (ap Content c.get.ensures) c.make.ensures (refl, refl, refl) in
-    record { rules = keeps k laws m _ _ n e; exact = e; fixed = refl }
+    let e = marked_exactly k laws m n c.args.bay (Slot c.args.slot) (Content c.get.result) known (ap Content c.get.ensures) c.make.ensures.made (refl, refl, refl) in
+    record { rules = keeps k laws m c.make.ensures.long _ _ n e; exact = e; fixed = refl }
