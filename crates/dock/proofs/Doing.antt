@@ -1,10 +1,13 @@
 -- When a call does what the rules say. Assumes nothing.
-use Rattle.std.proofs.Common.{◌≡◌, ℕ, ◌<◌, ◌≤◌, true, false, length, IfSome, IfNone, Some, None, Ok, Option, sym, refl, ap, ◌∙◌, subst, arith, get_or-set_same}
+use Rattle.std.proofs.Common.{◌≡◌, ℕ, ◌+◌, ◌<◌, ◌≤◌, true, false, List, [], ◌∷◌, length, IfSome, IfNone, OnErr, Some, None, Ok, Err, Option, Result, sym, refl, ap, ◌∙◌, subst, arith, get_or-set_same}
 use Rattle.std.proofs.lemmas.Bool.Decides.{nat_tests}
 use Rattle.std.specs.List.{slice_get}
 use Rattle.slot_memory.specs.Meaning.{Meaning}
 use Rattle.slot_memory.specs.Rules.{Operation, Clear, Reply, Done, Free, May, Keeps, seen}
+use Rattle.dock_rules.specs.declared.Line.{Line}
+use Rattle.dock_rules.specs.declared.Line.TheVariants.{D5}
 use Rattle.dock_rules.specs.declared.Refusal.{Refusal}
+use Rattle.dock_rules.specs.declared.Refusal.TheVariants as why
 use Rattle.dock_rules.specs.declared.Abandoned.{Abandoned}
 use Rattle.dock_rules.specs.declared.Abandoned.TheVariants as away
 use Rattle.dock_rules.specs.declared.Attempt.{Attempt}
@@ -13,13 +16,14 @@ use Rattle.dock_rules.specs.declared.BayRecord.TheVariants.{Free as Idle, UnderW
 use Rattle.dock_rules.specs.declared.DockState.{DockState}
 use Rattle.dock_rules.specs.declared.Outcome.{Outcome}
 use Rattle.dock_rules.specs.declared.Outcome.TheVariants.{Full, Stored, Empty, Taken}
-use Rattle.dock_rules.specs.Calls.{World, Call, Open, Step, Collect, Abandon, Enter, Answer, Refused, Opened, End, Settled, record_of, attempt, outcome, refusal, opened, with_record, with_dock, after_end, after_left, left_at, enter_tray, next_operation, stepped, step, collect, abandon, answered, granted, attempted, touches}
+use Rattle.dock_rules.specs.Calls.{World, Call, Open, Take, Step, Collect, Abandon, Enter, Answer, Refused, Opened, Began, End, Settled, record_of, attempt, outcome, refusal, opened, begun, with_record, with_dock, after_end, after_left, left_at, enter_tray, next_operation, stepped, step, collect, abandon, answered, granted, attempted, touches}
 use Rattle.dock_rules.specs.Calls as rules
 use Rattle.dock.specs.declared.Collected.{Collected}
 use Rattle.dock.specs.declared.Collected.TheVariants as collected
 use Rattle.dock.specs.declared.Left.{Left}
 use Rattle.dock.specs.declared.Left.TheVariants as left
-use Rattle.dock.specs.Answered.{collect_answer, abandon_answer, Out, CollectedFor, LeftFor, CollectedOut, LeftOut}
+use Rattle.dock.specs.Checks.{Checks, Begins, no_bay, busy, worn}
+use Rattle.dock.specs.Answered.{start_answer, collect_answer, abandon_answer, Out, CollectedFor, LeftFor, CollectedOut, LeftOut}
 use Rattle.dock.specs.Does.{Does}
 
 -- free results for a call that uses none
@@ -55,6 +59,30 @@ module _ {E : Type 0} (K : ℕ) (w : World E) where
   opening n life base m none keeps =
       granted_by K w (Open n life base) (Clear base) Done m _ _ refl none keeps
       (ap (λ x. (Opened, record { dock = opened n life; memory = x.1; trays = w.trays; book = w.book })) keeps.is)
+
+  -- a put or a take that has begun at the bay: t are the trays then
+  pub starting : (c : Call E) (b : ℕ) (l : Line) (t : List E) (s : ℕ) (d : DockState) (m : Meaning E) → touches w c ≡ None → granted w c unused ≡ (Began (w.dock.started + 1), record { dock = begun w.dock b l; memory = w.memory; trays = t; book = w.book }) → refusal w c ≡ None → Begins w.dock b l s d → m ≡ w.memory → Does K w c (Began s) (record { dock = d; memory = m; trays = t; book = w.book })
+  starting c b l t s d m dry is none begins same =
+      granted_dry K w c _ _ dry none ((λ j. (Began (begins.serial j), record { dock = begins.is j; memory = same j; trays = t; book = w.book })) ∙ sym is)
+
+  -- or that the bay turned down
+  pub not_begun : (c : Call E) (r : Refusal) (d : DockState) (m : Meaning E) → refusal w c ≡ Some r → d ≡ w.dock → m ≡ w.memory → Does K w c (Refused r) (record { dock = d; memory = m; trays = w.trays; book = w.book })
+  not_begun c r d m e left same = rw (left, same) (turned_down K w c r e)
+
+  -- a take of an open dock: begun, or turned down for the bay
+  pub taking : (b : ℕ) (d : DockState) (m : Meaning E) (r : Result ℕ Refusal) → w.dock.opened ≡ true → Checks (no_bay w.dock b ∷ busy w.dock b ∷ worn w.dock ∷ []) (λ s. Begins w.dock b D5 s d) r → OnErr r (d ≡ w.dock) → m ≡ w.memory → Does K w (Take b) (start_answer r) (record { dock = d; memory = m; trays = w.trays; book = w.book })
+  taking b d m (Ok s) o begins left same = starting (Take b) b D5 w.trays s d m refl refl (grind (arith, nat_tests)) begins same
+  taking b d m (Err r) o e left same = not_begun (Take b) r d m (grind (arith, nat_tests)) left same
+
+  -- a bay with no call under way is idle
+  no_attempt : (r : BayRecord) → ((a : Attempt) → r ≡ UnderWay a → ⊥) → attempt r ≡ None
+  no_attempt Idle none = refl
+  no_attempt (UnderWay a) none = absurd (none a refl)
+  no_attempt (Ended s o) none = refl
+  no_attempt (Owed s) none = refl
+
+  pub idling : (b : ℕ) (r : BayRecord) → w.dock.opened ≡ true → length w.trays ≡ w.dock.bays → b < w.dock.bays → r ≡ record_of w.dock b → ((a : Attempt) → r ≡ UnderWay a → ⊥) → Does K w (Step b) (Refused why.Idle) w
+  idling b r o t h e none = let idle = no_attempt r none in turned_down K w (Step b) why.Idle (grind (arith, nat_tests))
 
   not_idle : (b : ℕ) (call : Attempt) → w.dock.opened ≡ true → length w.trays ≡ w.dock.bays → b < w.dock.bays → record_of w.dock b ≡ UnderWay call → refusal w (Step b) ≡ None
   not_idle b call o t h e = grind (arith, nat_tests)

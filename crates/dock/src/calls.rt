@@ -1,9 +1,10 @@
 // The calls on a dock. Each is turned down for the first reason that applies, in the order of
 // `Refusal`, and then alters nothing.
-ghost use Rattle.std.specs.Prelude.{◌≡◌, ◌+◌, ◌^◌, ◌<◌, true, length, is_ok, MatchResult};
+ghost use Rattle.std.specs.Prelude.{◌≡◌, ◌+◌, ◌<◌, true, [], ◌∷◌, length, is_ok, MatchResult, OnErr};
 ghost use Rattle.slot_memory.specs.Rules.{Clear, Done};
-ghost use Rattle.dock_rules.specs.Calls.{Open, Put, Take, Step, Collect, Abandon, Enter, Waive, good_length, is_it, owed_of, is_free, left_at, begun};
+ghost use Rattle.dock_rules.specs.Calls.{Open, Put, Take, Step, Collect, Abandon, Enter, Waive, good_length, record_of, is_it, owed_of, is_free, left_at};
 ghost use Rattle.dock.specs.Answered.{open_answer, start_answer, step_answer, collect_answer, abandon_answer, settle_answer, CollectedFor, LeftFor, GivenBack, CollectedOut, LeftOut, RefusedLeaves, Out, Stays, StaysBut};
+ghost use Rattle.dock.specs.Checks.{Checks, Begins, shut, other_trays, no_bay, busy, worn, no_receipt, full};
 ghost use Rattle.dock.specs.Found.{FoundOf};
 ghost use Rattle.dock.specs.Does.{Does, DoesAlone, DoesOver, Carries, CarriesAlone, CarriesOver, StartsAlone, Ran, shut_state, book_of, world};
 
@@ -11,6 +12,15 @@ use crate::lines::run;
 use crate::{Book, Collected, Dock, Found, Left, Receipt};
 use dock_rules::{Abandoned, Attempt, BayRecord, DockState, Line, Outcome, Refusal, Stepped};
 use slot_memory::{BAYS, Bay, SlotMemory};
+
+/// A dock that has not been opened.
+const SHUT: DockState = DockState {
+    opened: false,
+    bays: 0,
+    lifetime: 0,
+    started: 0,
+    records: [BayRecord::Free; 16],
+};
 
 /// The longest ring.
 const LONGEST: u32 = 1024;
@@ -28,20 +38,14 @@ fn fits_ring(length: u32) -> bool
 fn is_free(record: BayRecord) -> bool
     ensures { result ≡ is_free «record» }
 {
-    match record {
-        BayRecord::Free => true,
-        BayRecord::UnderWay(_) | BayRecord::Ended(_, _) | BayRecord::Owed(_) => false,
-    }
+    matches!(record, BayRecord::Free)
 }
 
 // Whether the bay's receipt of this serial is out.
 fn owes(record: BayRecord, serial: u32) -> bool
     ensures { result ≡ is_it serial (owed_of «record») }
 {
-    match record {
-        BayRecord::Owed(owed) => owed == serial,
-        BayRecord::Free | BayRecord::UnderWay(_) | BayRecord::Ended(_, _) => false,
-    }
+    matches!(record, BayRecord::Owed(owed) if owed == serial)
 }
 
 // What becomes of a call that is given up at this line.
@@ -63,13 +67,7 @@ impl<M: SlotMemory> Dock<M> {
     {
         Dock {
             memory,
-            state: DockState {
-                opened: false,
-                bays: 0,
-                lifetime: 0,
-                started: 0,
-                records: [BayRecord::Free; 16],
-            },
+            state: SHUT,
         }
     }
 
@@ -99,19 +97,57 @@ impl<M: SlotMemory> Dock<M> {
             opened: true,
             bays,
             lifetime,
-            started: 0,
-            records: [BayRecord::Free; 16],
+            ..SHUT
         };
         Ok(())
     }
 
+    // SHUT, unless the dock is open.
+    fn check_open(&self) -> Result<(), Refusal>
+        ensures { Checks (shut self.now.state ∷ []) (λ _. self.now.state.opened ≡ true) result }
+    {
+        if self.state.opened {
+            Ok(())
+        } else {
+            Err(Refusal::Shut)
+        }
+    }
+
+    // The same, and TRAYS, unless there are as many trays as bays.
+    fn check_trays(&self, handed: &[M::Element]) -> Result<(), Refusal>
+        ensures { Checks (shut self.now.state ∷ other_trays self.now.state (length handed.now) ∷ []) (λ _. (self.now.state.opened ≡ true) × (length handed.now ≡ self.now.state.bays)) result }
+    {
+        self.check_open()?;
+        if handed.len() == self.state.bays as usize {
+            Ok(())
+        } else {
+            Err(Refusal::Trays)
+        }
+    }
+
+    // The bay's record, where there is a bay of that number.
+    fn record(&self, bay: Bay) -> Result<BayRecord, Refusal>
+        ensures { Checks (no_bay self.now.state bay ∷ []) (λ found. (bay < self.now.state.bays) × (found ≡ record_of self.now.state bay)) result }
+    {
+        if bay < self.state.bays {
+            Ok(self.state.records[bay as usize])
+        } else {
+            Err(Refusal::Bay)
+        }
+    }
+
     // Starts a call at the bay, which stands at its first line; answers its serial.
-    fn begin(&mut self, bay: Bay, line: Line) -> u32
-        requires { (bay < self.old.state.bays) × (self.old.state.started + 1 < 2 ^ 32) }
-        ensures serial { result ≡ self.old.state.started + 1 }
-        ensures state { self.new.state ≡ begun self.old.state bay line }
+    fn begin(&mut self, bay: Bay, line: Line) -> Result<u32, Refusal>
+        ensures begins { Checks (no_bay self.old.state bay ∷ busy self.old.state bay ∷ worn self.old.state ∷ []) (λ serial. Begins self.old.state bay line serial self.new.state) result }
+        ensures unmoved { OnErr result (self.new.state ≡ self.old.state) }
         ensures memory { self.new.memory ≡ self.old.memory }
     {
+        if !is_free(self.record(bay)?) {
+            return Err(Refusal::Busy);
+        }
+        if self.state.started >= self.state.lifetime {
+            return Err(Refusal::Worn);
+        }
         let serial = self.state.started + 1;
         self.state.started = serial;
         self.state.records[bay as usize] = BayRecord::UnderWay(Attempt {
@@ -120,7 +156,7 @@ impl<M: SlotMemory> Dock<M> {
             index: 0,
             held: false,
         });
-        serial
+        Ok(serial)
     }
 
     /// Starts a put of the element, which goes into the bay's tray at once. Answers the call's serial.
@@ -135,23 +171,10 @@ impl<M: SlotMemory> Dock<M> {
         ensures kept { self.new.memory ≡ self.old.memory }
         ensures stays { Stays self.old.state self.new.state }
     {
-        if !self.state.opened {
-            return Err(Refusal::Shut);
-        }
-        if trays.len() != self.state.bays as usize {
-            return Err(Refusal::Trays);
-        }
-        if bay >= self.state.bays {
-            return Err(Refusal::Bay);
-        }
-        if !is_free(self.state.records[bay as usize]) {
-            return Err(Refusal::Busy);
-        }
-        if self.state.started >= self.state.lifetime {
-            return Err(Refusal::Worn);
-        }
+        self.check_trays(trays)?;
+        let serial = self.begin(bay, Line::E5)?;
         trays[bay as usize] = element;
-        Ok(self.begin(bay, Line::E5))
+        Ok(serial)
     }
 
     /// Starts a take. Answers the call's serial.
@@ -161,19 +184,8 @@ impl<M: SlotMemory> Dock<M> {
         ensures kept { self.new.memory ≡ self.old.memory }
         ensures stays { Stays self.old.state self.new.state }
     {
-        if !self.state.opened {
-            return Err(Refusal::Shut);
-        }
-        if bay >= self.state.bays {
-            return Err(Refusal::Bay);
-        }
-        if !is_free(self.state.records[bay as usize]) {
-            return Err(Refusal::Busy);
-        }
-        if self.state.started >= self.state.lifetime {
-            return Err(Refusal::Worn);
-        }
-        Ok(self.begin(bay, Line::D5))
+        self.check_open()?;
+        self.begin(bay, Line::D5)
     }
 
     /// Runs the line at which the bay's call stands. Answers where the call stands then, or how it
@@ -185,21 +197,9 @@ impl<M: SlotMemory> Dock<M> {
         ensures fixed { M.SlotMemory.limit self.new.memory ≡ M.SlotMemory.limit self.old.memory }
         ensures stays { Stays self.old.state self.new.state }
     {
-        if !self.state.opened {
-            return Err(Refusal::Shut);
-        }
-        if trays.len() != self.state.bays as usize {
-            return Err(Refusal::Trays);
-        }
-        if bay >= self.state.bays {
-            return Err(Refusal::Bay);
-        }
-        let here = self.state.records[bay as usize];
-        let mut call = match here {
-            BayRecord::UnderWay(call) => call,
-            BayRecord::Free | BayRecord::Ended(_, _) | BayRecord::Owed(_) => {
-                return Err(Refusal::Idle);
-            }
+        self.check_trays(trays)?;
+        let BayRecord::UnderWay(mut call) = self.record(bay)? else {
+            return Err(Refusal::Idle);
         };
         let stepped = run(&mut self.memory, bay, &mut call, trays);
         self.state.records[bay as usize] = match stepped {
@@ -213,14 +213,8 @@ impl<M: SlotMemory> Dock<M> {
     fn call_of(&self, bay: Bay, serial: u32) -> Result<Found, Refusal>
         ensures { FoundOf self.now.state bay serial result }
     {
-        if !self.state.opened {
-            return Err(Refusal::Shut);
-        }
-        if bay >= self.state.bays {
-            return Err(Refusal::Bay);
-        }
-        let here = self.state.records[bay as usize];
-        match here {
+        self.check_open()?;
+        match self.record(bay)? {
             BayRecord::UnderWay(call) if call.serial == serial => Ok(Found::UnderWay(call.line)),
             BayRecord::Ended(of, outcome) if of == serial => Ok(Found::Ended(outcome)),
             BayRecord::Free
@@ -283,6 +277,43 @@ impl<M: SlotMemory> Dock<M> {
         Ok(left)
     }
 
+    // The bay's receipt of that serial is out.
+    fn check_owed(&self, bay: Bay, serial: u32) -> Result<(), Refusal>
+        ensures { Checks (no_bay self.now.state bay ∷ no_receipt self.now.state bay serial ∷ []) (λ _. (bay < self.now.state.bays) × (record_of self.now.state bay ≡ BayRecord.Owed serial)) result }
+    {
+        if owes(self.record(bay)?, serial) {
+            Ok(())
+        } else {
+            Err(Refusal::Serial)
+        }
+    }
+
+    // What turns the entry of the receipt's element down.
+    fn check_entry(
+        &self,
+        receipt: &Receipt,
+        trays: &[M::Element],
+        book: &Book<'_, M::Element>,
+    ) -> Result<(), Refusal>
+        ensures { Checks (shut self.now.state ∷ other_trays self.now.state (length trays.now) ∷ no_bay self.now.state receipt.now.bay ∷ no_receipt self.now.state receipt.now.bay receipt.now.serial ∷ full book.now ∷ []) (λ _. Out self.now.state receipt.now × (length trays.now ≡ self.now.state.bays) × (book.now.entered < length book.now.row.now)) result }
+    {
+        self.check_trays(trays)?;
+        self.check_owed(receipt.bay, receipt.serial)?;
+        if book.entered < book.row.len() {
+            Ok(())
+        } else {
+            Err(Refusal::Book)
+        }
+    }
+
+    // What turns the waiver of the receipt down.
+    fn check_waiver(&self, receipt: &Receipt) -> Result<(), Refusal>
+        ensures { Checks (shut self.now.state ∷ no_bay self.now.state receipt.now.bay ∷ no_receipt self.now.state receipt.now.bay receipt.now.serial ∷ []) (λ _. Out self.now.state receipt.now) result }
+    {
+        self.check_open()?;
+        self.check_owed(receipt.bay, receipt.serial)
+    }
+
     /// Copies the element of the receipt's tray to the end of the book, and frees the bay. A refused
     /// receipt is given back.
     pub fn enter(
@@ -300,20 +331,8 @@ impl<M: SlotMemory> Dock<M> {
         ensures lent { book.new.row.ghost_name ≡ book.old.row.ghost_name }
         ensures stays { StaysBut receipt.bay self.old.state self.new.state }
     {
-        if !self.state.opened {
-            return Err((Refusal::Shut, receipt));
-        }
-        if trays.len() != self.state.bays as usize {
-            return Err((Refusal::Trays, receipt));
-        }
-        if receipt.bay >= self.state.bays {
-            return Err((Refusal::Bay, receipt));
-        }
-        if !owes(self.state.records[receipt.bay as usize], receipt.serial) {
-            return Err((Refusal::Serial, receipt));
-        }
-        if book.entered >= book.row.len() {
-            return Err((Refusal::Book, receipt));
+        if let Err(why) = self.check_entry(&receipt, trays, book) {
+            return Err((why, receipt));
         }
         let Receipt { bay, serial: _ } = receipt;
         book.row[book.entered] = trays[bay as usize];
@@ -332,14 +351,8 @@ impl<M: SlotMemory> Dock<M> {
         ensures granted { Out self.old.state receipt → is_ok result ≡ true }
         ensures stays { StaysBut receipt.bay self.old.state self.new.state }
     {
-        if !self.state.opened {
-            return Err((Refusal::Shut, receipt));
-        }
-        if receipt.bay >= self.state.bays {
-            return Err((Refusal::Bay, receipt));
-        }
-        if !owes(self.state.records[receipt.bay as usize], receipt.serial) {
-            return Err((Refusal::Serial, receipt));
+        if let Err(why) = self.check_waiver(&receipt) {
+            return Err((why, receipt));
         }
         let Receipt { bay, serial: _ } = receipt;
         self.state.records[bay as usize] = BayRecord::Free;
