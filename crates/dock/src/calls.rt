@@ -86,10 +86,10 @@ impl<M: SlotMemory> Dock<M> {
         if !fits_ring(self.memory.length()) {
             return Err(Refusal::Length);
         }
-        if bays == 0 || bays > BAYS {
+        if !(1..=BAYS).contains(&bays) {
             return Err(Refusal::Bays);
         }
-        if lifetime == 0 || lifetime > LONGEST_LIFE {
+        if !(1..=LONGEST_LIFE).contains(&lifetime) {
             return Err(Refusal::Life);
         }
         self.memory.clear(base);
@@ -234,9 +234,8 @@ impl<M: SlotMemory> Dock<M> {
         ensures out { CollectedOut self.new.state result }
         ensures stays { Stays self.old.state self.new.state }
     {
-        let outcome = match self.call_of(bay, serial)? {
-            Found::UnderWay(_) => return Err(Refusal::Early),
-            Found::Ended(outcome) => outcome,
+        let Found::Ended(outcome) = self.call_of(bay, serial)? else {
+            return Err(Refusal::Early);
         };
         let (after, collected) = match outcome {
             Outcome::Full => (BayRecord::Free, Collected::Full),
@@ -261,9 +260,8 @@ impl<M: SlotMemory> Dock<M> {
         ensures out { LeftOut self.new.state result }
         ensures stays { Stays self.old.state self.new.state }
     {
-        let line = match self.call_of(bay, serial)? {
-            Found::UnderWay(line) => line,
-            Found::Ended(_) => return Err(Refusal::Late),
+        let Found::UnderWay(line) = self.call_of(bay, serial)? else {
+            return Err(Refusal::Late);
         };
         let (after, left) = match left_at(line) {
             Abandoned::Untouched => (BayRecord::Free, Left::Untouched),
