@@ -1,10 +1,10 @@
-use Rattle.std.proofs.Common.{refl, ap, arith}
+use Rattle.std.proofs.Common.{refl, ap, rules, arith}
 use Rattle.std.proofs.lemmas.Bool.Decides.{nat_tests}
 use Rattle.std.proofs.lemmas.Result.{err_from_is_err_and}
 use Rattle.dock_rules.specs.declared.Line.TheVariants.{E5}
 use Rattle.dock_rules.specs.Calls.{Put}
 use Rattle.dock.proofs.Lawful.{carries}
-use Rattle.dock.proofs.Doing.{turned_down, not_begun, starting}
+use Rattle.dock.proofs.Doing.{turned_down, not_begun, granted_dry}
 use Rattle.dock.proofs.Dock.put.Goals as goal
 
 pub returns-in_err-check_trays-clause-does : goal.returns-in_err-check_trays-clause-does
@@ -20,7 +20,7 @@ pub returns-in_err-serial-clause-law : goal.returns-in_err-serial-clause-law
 returns-in_err-serial-clause-law g c = λ k. carries (returns-in_err-serial-clause-does g c k)
 
 pub returns-clause-does : goal.returns-clause-does
-returns-clause-does g c = λ k. starting _ _ (Put _ _) _ E5 _ _ _ _ refl refl (grind (arith, nat_tests)) c.in_ok-serial.ensures.begins (ap g.M.SlotMemory.meaning c.begin.ensures.memory)
+returns-clause-does g c = λ k. granted_dry _ _ _ _ _ refl (grind (arith, nat_tests)) (search rules)
 
 pub returns-clause-law : goal.returns-clause-law
 returns-clause-law g c = λ k. carries (returns-clause-does g c k)

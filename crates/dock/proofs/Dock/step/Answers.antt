@@ -30,7 +30,7 @@ returns-clause-does g c =
     let same : c.match-stepped.stepped ≡ c.run-stepped.result = search rules in
     let notes : c.match-stepped.self ≡ noting c.run-stepped.result c.run-stepped.new.call = search rules in
     let is = stepped_by g.M.SlotMemory c.args.self.now.state c.args.self.now.memory c.run-stepped.new.memory c.args.bay c.in-UnderWay.call c.run-stepped.new.call c.args.trays.now c.run-stepped.new.trays c.run-stepped.result _ _ same notes ran in
-    λ k. stepping _ _ _ c.in-UnderWay.call ran.reply _ _ _ c.in_ok-check_trays.ensures.0 c.in_ok-check_trays.ensures.1 c.in_ok-call.ensures.0 (sym c.in_ok-call.ensures.1 ∙ c.in-UnderWay.is) ran.rules (is k)
+    λ k. stepping _ _ _ c.in-UnderWay.call ran.reply _ _ _ (grind (arith, nat_tests)) (sym c.in_ok-call.ensures.1 ∙ c.in-UnderWay.is) ran.rules (is k)
 
 pub returns-clause-law : goal.returns-clause-law
 returns-clause-law g c = λ k. carries (returns-clause-does g c k)
