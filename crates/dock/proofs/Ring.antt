@@ -1,8 +1,8 @@
 -- Which lengths a ring may have: a power of two, of which one digit is 1, divides 2 ^ 32.
 -- Assumes nothing.
-use Rattle.std.proofs.Common.{◌≡◌, ℕ, zero, suc, ◌+◌, ◌/◌, ◌%◌, ◌^◌, ◌<◌, ◌≤◌, Bool, true, cond, not, ◌&&◌, eqb, Decides, sym, refl, ap, ◌∙◌, pow-suc, arith}
+use Rattle.std.proofs.Common.{◌≡◌, ℕ, zero, suc, ◌+◌, ◌/◌, ◌%◌, ◌^◌, ◌<◌, ◌≤◌, eqb, sym, refl, ap, ◌∙◌, pow-suc, arith}
 use lib.Count.{ones_in, ones, ones_step}
-use Rattle.std.proofs.lemmas.Bool.Decides.{Decides-below_and}
+use Rattle.std.proofs.lemmas.Bool.{agree_below_at}
 use Rattle.dock_rules.specs.Calls.{good_length}
 
 -- how many of the k lowest digits are 1
@@ -15,20 +15,7 @@ unfolding ones ones_in
 all_ones zero n h = let e : 0 ≡ n = omega arith in ap ones e
 all_ones (suc k) n h = ap (λ x. n % 2 + x) (all_ones k (n / 2) (omega (arith, pow-suc 2 k))) ∙ sym (ones_step n)
 
-abbrev same : Bool → Bool → Bool
-same a b = cond a b (not b)
-
-from_same : (a b : Bool) → Decides (same a b) (a ≡ b)
-from_same a b = grind arith
-
-abbrev agrees : ℕ → Bool
-agrees l = same (eqb (ones_among 11 l) 1) (good_length l)
-
-abbrev agree : ℕ → Bool
-agree zero = true
-agree (suc n) = agrees n && agree n
-
 pub good_length_lem : (l : ℕ) → l ≤ 1024 → eqb (ones l) 1 ≡ good_length l
 good_length_lem l h =
     ap (λ n. eqb n 1) (sym (all_ones 11 l (omega arith)))
-    ∙ (Decides-below_and agrees (λ n. eqb (ones_among 11 n) 1 ≡ good_length n) agree (λ n. from_same _ _) refl (λ _. refl) 1025).0 refl l (omega arith)
+    ∙ agree_below_at (λ n. eqb (ones_among 11 n) 1) good_length 1025 l refl (omega arith)
