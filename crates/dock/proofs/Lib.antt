@@ -1,4 +1,3 @@
 pub mod Doing
 pub mod Running
-pub mod Ring
 pub mod Lawful
