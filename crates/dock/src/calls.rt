@@ -2,7 +2,7 @@
 // `Refusal`, and then alters nothing.
 ghost use Rattle.std.specs.Prelude.{◌≡◌, ◌+◌, ◌<◌, true, [], ◌∷◌, length, is_ok, MatchResult, OnErr};
 ghost use Rattle.slot_memory.specs.Rules.{Clear, Done};
-ghost use Rattle.dock_rules.specs.Calls.{Open, Put, Take, Step, Collect, Abandon, Enter, Waive, good_length, record_of, is_it, owed_of, is_free, left_at};
+ghost use Rattle.dock_rules.specs.Calls.{Open, Put, Take, Step, Collect, Abandon, Enter, Waive, good_length, record_of, left_at};
 ghost use Rattle.dock.specs.Answered.{open_answer, start_answer, step_answer, collect_answer, abandon_answer, settle_answer, CollectedFor, LeftFor, GivenBack, CollectedOut, LeftOut, RefusedLeaves, Out, Stays, StaysBut};
 ghost use Rattle.dock.specs.Checks.{Checks, Begins, shut, other_trays, no_bay, busy, worn, no_receipt, full};
 ghost use Rattle.dock.specs.Found.{FoundOf};
@@ -19,45 +19,14 @@ const SHUT: DockState = DockState {
     bays: 0,
     lifetime: 0,
     started: 0,
-    records: [BayRecord::Free; 16],
+    records: [BayRecord::Free; BAYS as usize],
 };
 
 /// The longest ring.
 const LONGEST: u32 = 1024;
 
 /// The most calls that a dock may be opened for.
-const LONGEST_LIFE: u32 = 2147483648;
-
-// Whether a ring may have this many slots.
-fn fits_ring(length: u32) -> bool
-    ensures { result ≡ good_length length }
-{
-    length <= LONGEST && length.is_power_of_two()
-}
-
-fn is_free(record: BayRecord) -> bool
-    ensures { result ≡ is_free «record» }
-{
-    matches!(record, BayRecord::Free)
-}
-
-// Whether the bay's receipt of this serial is out.
-fn owes(record: BayRecord, serial: u32) -> bool
-    ensures { result ≡ is_it serial (owed_of «record») }
-{
-    matches!(record, BayRecord::Owed(owed) if owed == serial)
-}
-
-// What becomes of a call that is given up at this line.
-fn left_at(line: Line) -> Abandoned
-    ensures { result ≡ left_at line }
-{
-    match line {
-        Line::E16 | Line::E17 => Abandoned::Stored,
-        Line::D16 | Line::D17 => Abandoned::Taken,
-        _ => Abandoned::Untouched,
-    }
-}
+const LONGEST_LIFE: u32 = 2_147_483_648;
 
 impl<M: SlotMemory> Dock<M> {
     /// A shut dock over the memory.
@@ -100,63 +69,6 @@ impl<M: SlotMemory> Dock<M> {
             ..SHUT
         };
         Ok(())
-    }
-
-    // SHUT, unless the dock is open.
-    fn check_open(&self) -> Result<(), Refusal>
-        ensures { Checks (shut self.now.state ∷ []) (λ _. self.now.state.opened ≡ true) result }
-    {
-        if self.state.opened {
-            Ok(())
-        } else {
-            Err(Refusal::Shut)
-        }
-    }
-
-    // The same, and TRAYS, unless there are as many trays as bays.
-    fn check_trays(&self, handed: &[M::Element]) -> Result<(), Refusal>
-        ensures { Checks (shut self.now.state ∷ other_trays self.now.state (length handed.now) ∷ []) (λ _. (self.now.state.opened ≡ true) × (length handed.now ≡ self.now.state.bays)) result }
-    {
-        self.check_open()?;
-        if handed.len() == self.state.bays as usize {
-            Ok(())
-        } else {
-            Err(Refusal::Trays)
-        }
-    }
-
-    // The bay's record, where there is a bay of that number.
-    fn record(&self, bay: Bay) -> Result<BayRecord, Refusal>
-        ensures { Checks (no_bay self.now.state bay ∷ []) (λ found. (bay < self.now.state.bays) × (found ≡ record_of self.now.state bay)) result }
-    {
-        if bay < self.state.bays {
-            Ok(self.state.records[bay as usize])
-        } else {
-            Err(Refusal::Bay)
-        }
-    }
-
-    // Starts a call at the bay, which stands at its first line; answers its serial.
-    fn begin(&mut self, bay: Bay, line: Line) -> Result<u32, Refusal>
-        ensures begins { Checks (no_bay self.old.state bay ∷ busy self.old.state bay ∷ worn self.old.state ∷ []) (λ serial. Begins self.old.state bay line serial self.new.state) result }
-        ensures unmoved { OnErr result (self.new.state ≡ self.old.state) }
-        ensures memory { self.new.memory ≡ self.old.memory }
-    {
-        if !is_free(self.record(bay)?) {
-            return Err(Refusal::Busy);
-        }
-        if self.state.started >= self.state.lifetime {
-            return Err(Refusal::Worn);
-        }
-        let serial = self.state.started + 1;
-        self.state.started = serial;
-        self.state.records[bay as usize] = BayRecord::UnderWay(Attempt {
-            serial,
-            line,
-            index: 0,
-            held: false,
-        });
-        Ok(serial)
     }
 
     /// Starts a put of the element, which goes into the bay's tray at once. Answers the call's serial.
@@ -207,21 +119,6 @@ impl<M: SlotMemory> Dock<M> {
             Stepped::Ended(outcome) => BayRecord::Ended(call.serial, outcome),
         };
         Ok(stepped)
-    }
-
-    // The bay's call of that serial.
-    fn call_of(&self, bay: Bay, serial: u32) -> Result<Found, Refusal>
-        ensures { FoundOf self.now.state bay serial result }
-    {
-        self.check_open()?;
-        match self.record(bay)? {
-            BayRecord::UnderWay(call) if call.serial == serial => Ok(Found::UnderWay(call.line)),
-            BayRecord::Ended(of, outcome) if of == serial => Ok(Found::Ended(outcome)),
-            BayRecord::Free
-            | BayRecord::UnderWay(_)
-            | BayRecord::Ended(_, _)
-            | BayRecord::Owed(_) => Err(Refusal::Serial),
-        }
     }
 
     /// Answers how the bay's call of that serial ended. The bay is free then, unless an element lies in
@@ -275,43 +172,6 @@ impl<M: SlotMemory> Dock<M> {
         Ok(left)
     }
 
-    // The bay's receipt of that serial is out.
-    fn check_owed(&self, bay: Bay, serial: u32) -> Result<(), Refusal>
-        ensures { Checks (no_bay self.now.state bay ∷ no_receipt self.now.state bay serial ∷ []) (λ _. (bay < self.now.state.bays) × (record_of self.now.state bay ≡ BayRecord.Owed serial)) result }
-    {
-        if owes(self.record(bay)?, serial) {
-            Ok(())
-        } else {
-            Err(Refusal::Serial)
-        }
-    }
-
-    // What turns the entry of the receipt's element down.
-    fn check_entry(
-        &self,
-        receipt: &Receipt,
-        trays: &[M::Element],
-        book: &Book<'_, M::Element>,
-    ) -> Result<(), Refusal>
-        ensures { Checks (shut self.now.state ∷ other_trays self.now.state (length trays.now) ∷ no_bay self.now.state receipt.now.bay ∷ no_receipt self.now.state receipt.now.bay receipt.now.serial ∷ full book.now ∷ []) (λ _. Out self.now.state receipt.now × (length trays.now ≡ self.now.state.bays) × (book.now.entered < length book.now.row.now)) result }
-    {
-        self.check_trays(trays)?;
-        self.check_owed(receipt.bay, receipt.serial)?;
-        if book.entered < book.row.len() {
-            Ok(())
-        } else {
-            Err(Refusal::Book)
-        }
-    }
-
-    // What turns the waiver of the receipt down.
-    fn check_waiver(&self, receipt: &Receipt) -> Result<(), Refusal>
-        ensures { Checks (shut self.now.state ∷ no_bay self.now.state receipt.now.bay ∷ no_receipt self.now.state receipt.now.bay receipt.now.serial ∷ []) (λ _. Out self.now.state receipt.now) result }
-    {
-        self.check_open()?;
-        self.check_owed(receipt.bay, receipt.serial)
-    }
-
     /// Copies the element of the receipt's tray to the end of the book, and frees the bay. A refused
     /// receipt is given back.
     pub fn enter(
@@ -355,5 +215,152 @@ impl<M: SlotMemory> Dock<M> {
         let Receipt { bay, serial: _ } = receipt;
         self.state.records[bay as usize] = BayRecord::Free;
         Ok(())
+    }
+}
+
+// What the calls have in common. A check answers the first of its reasons that applies.
+impl<M: SlotMemory> Dock<M> {
+    // The dock is open.
+    fn check_open(&self) -> Result<(), Refusal>
+        ensures { Checks (shut self.now.state ∷ []) (λ _. self.now.state.opened ≡ true) result }
+    {
+        if self.state.opened {
+            Ok(())
+        } else {
+            Err(Refusal::Shut)
+        }
+    }
+
+    // It is open, and as many trays are handed over as it has bays.
+    fn check_trays(&self, handed: &[M::Element]) -> Result<(), Refusal>
+        ensures {
+            Checks (shut self.now.state ∷ other_trays self.now.state (length handed.now) ∷ [])
+            (λ _. (self.now.state.opened ≡ true) × (length handed.now ≡ self.now.state.bays)) result
+        }
+    {
+        self.check_open()?;
+        if handed.len() == self.state.bays as usize {
+            Ok(())
+        } else {
+            Err(Refusal::Trays)
+        }
+    }
+
+    // The record of the bay of that number.
+    fn record(&self, bay: Bay) -> Result<BayRecord, Refusal>
+        ensures {
+            Checks (no_bay self.now.state bay ∷ [])
+            (λ found. (bay < self.now.state.bays) × (found ≡ record_of self.now.state bay)) result
+        }
+    {
+        if bay < self.state.bays {
+            Ok(self.state.records[bay as usize])
+        } else {
+            Err(Refusal::Bay)
+        }
+    }
+
+    // Starts a call at the bay, if it is free and calls are left. Answers the call's serial.
+    fn begin(&mut self, bay: Bay, line: Line) -> Result<u32, Refusal>
+        ensures begins {
+            Checks (no_bay self.old.state bay ∷ busy self.old.state bay ∷ worn self.old.state ∷ [])
+            (λ serial. Begins self.old.state bay line serial self.new.state) result
+        }
+        ensures unmoved { OnErr result (self.new.state ≡ self.old.state) }
+        ensures memory { self.new.memory ≡ self.old.memory }
+    {
+        if self.record(bay)? != BayRecord::Free {
+            return Err(Refusal::Busy);
+        }
+        if self.state.started >= self.state.lifetime {
+            return Err(Refusal::Worn);
+        }
+        let serial = self.state.started + 1;
+        self.state.started = serial;
+        self.state.records[bay as usize] = BayRecord::UnderWay(Attempt {
+            serial,
+            line,
+            index: 0,
+            held: false,
+        });
+        Ok(serial)
+    }
+
+    // The bay's call of that serial.
+    fn call_of(&self, bay: Bay, serial: u32) -> Result<Found, Refusal>
+        ensures { FoundOf self.now.state bay serial result }
+    {
+        self.check_open()?;
+        match self.record(bay)? {
+            BayRecord::UnderWay(call) if call.serial == serial => Ok(Found::UnderWay(call.line)),
+            BayRecord::Ended(of, outcome) if of == serial => Ok(Found::Ended(outcome)),
+            _ => Err(Refusal::Serial),
+        }
+    }
+
+    // The bay's receipt of that serial is out.
+    fn check_owed(&self, bay: Bay, serial: u32) -> Result<(), Refusal>
+        ensures {
+            Checks (no_bay self.now.state bay ∷ no_receipt self.now.state bay serial ∷ [])
+            (λ _. (bay < self.now.state.bays) × (record_of self.now.state bay ≡ BayRecord.Owed serial)) result
+        }
+    {
+        match self.record(bay)? {
+            BayRecord::Owed(owed) if owed == serial => Ok(()),
+            _ => Err(Refusal::Serial),
+        }
+    }
+
+    // The receipt's element may be entered into the book.
+    fn check_entry(
+        &self,
+        receipt: &Receipt,
+        trays: &[M::Element],
+        book: &Book<'_, M::Element>,
+    ) -> Result<(), Refusal>
+        ensures {
+            let d = self.now.state in
+            let x = receipt.now in
+            Checks (shut d ∷ other_trays d (length trays.now) ∷ no_bay d x.bay ∷ no_receipt d x.bay x.serial ∷ full book.now ∷ [])
+            (λ _. Out d x × (length trays.now ≡ d.bays) × (book.now.entered < length book.now.row.now)) result
+        }
+    {
+        self.check_trays(trays)?;
+        self.check_owed(receipt.bay, receipt.serial)?;
+        if book.entered < book.row.len() {
+            Ok(())
+        } else {
+            Err(Refusal::Book)
+        }
+    }
+
+    // The receipt may be waived.
+    fn check_waiver(&self, receipt: &Receipt) -> Result<(), Refusal>
+        ensures {
+            let d = self.now.state in
+            let x = receipt.now in
+            Checks (shut d ∷ no_bay d x.bay ∷ no_receipt d x.bay x.serial ∷ []) (λ _. Out d x) result
+        }
+    {
+        self.check_open()?;
+        self.check_owed(receipt.bay, receipt.serial)
+    }
+}
+
+// Whether a ring may have this many slots.
+fn fits_ring(length: u32) -> bool
+    ensures { result ≡ good_length length }
+{
+    length <= LONGEST && length.is_power_of_two()
+}
+
+// What becomes of a call that is given up at this line.
+fn left_at(line: Line) -> Abandoned
+    ensures { result ≡ left_at line }
+{
+    match line {
+        Line::E16 | Line::E17 => Abandoned::Stored,
+        Line::D16 | Line::D17 => Abandoned::Taken,
+        _ => Abandoned::Untouched,
     }
 }

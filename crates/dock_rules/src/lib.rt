@@ -6,7 +6,7 @@ ghost use Rattle.std.specs.Prelude.{◌≡◌, Some};
 ghost use Rattle.dock_rules.specs.Runs.{EveryRun};
 ghost use Rattle.dock_rules.specs.Words.{label, outcome_word, abandoned_word, refusal_number, refusal_word};
 
-use slot_memory::Bay;
+use slot_memory::{BAYS, Bay};
 use std::fmt;
 
 /// Where a bay's call stands: the line that its next step runs. Lines of a put begin with E, lines
@@ -123,6 +123,7 @@ pub enum BayRecord {
 /// What the dock notes of itself.
 #[derive(Clone, Copy, Debug, PartialEq, Eq)]
 pub struct DockState {
+    // No `Option` round the others: each definition of the rules would then read bays and records through it.
     pub opened: bool,
     /// How many bays there are.
     pub bays: Bay,
@@ -130,7 +131,8 @@ pub struct DockState {
     pub lifetime: u32,
     /// How many calls have been started: the serial of the last.
     pub started: u32,
-    pub records: [BayRecord; 16],
+    // An array beside `bays`, since no call of the dock allocates.
+    pub records: [BayRecord; BAYS as usize],
 }
 
 impl From<Refusal> for u8 {
