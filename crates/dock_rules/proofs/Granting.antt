@@ -29,7 +29,7 @@ no_reason [] e = tt
 no_reason (t ∷ ts) e = go t.0 refl (no_reason ts) e
   where
     go : (x : Bool) → t.0 ≡ x → (first ts ≡ None → NoReason ts) → cond x (Some t.1) (first ts) ≡ None → (t.0 ≡ false) × NoReason ts
-    go true same rest e = absurd (let z : ◌≡◌ {A = ℕ} 0 1 = cc in omega arith)
+    go true same rest e = cc
     go false same rest e = (same, rest e)
 
 -- a free bay has no call under way

@@ -27,11 +27,11 @@ use Rattle.dock_rules.proofs.Weights.{placed_words, waits_weigh}
 -- a request of the putting side is a put
 pub asked_put : {E : Type 0} (q : Request E) → side_of q ≡ Putting → (e : E) × (q ≡ PutOf e)
 asked_put (PutOf e) k = (e, refl)
-asked_put TakeOf k = absurd (let z : ◌≡◌ {A = ℕ} 0 1 = cc in omega arith)
+asked_put TakeOf k = cc
 
 -- a request of the taking side is a take
 pub asked_take : {E : Type 0} (q : Request E) → side_of q ≡ Taking → q ≡ TakeOf
-asked_take (PutOf e) k = absurd (let z : ◌≡◌ {A = ℕ} 0 1 = cc in omega arith)
+asked_take (PutOf e) k = cc
 asked_take TakeOf k = refl
 
 -- the index after a number that fits 32 bits is another number

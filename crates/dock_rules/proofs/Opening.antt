@@ -89,7 +89,7 @@ pub opening_keeps : {E : Type 0} (K : ℕ) (w v : World E) (n life base : ℕ) (
 opening_keeps {E} K w v n life base f fits long may e = go (refusal w (Open n life base)) refl may e
   where
     go : (o : Option Refusal) → refusal w (Open n life base) ≡ o → IfNone o (f.spare ≤ K) → answered w (Open n life base) f o ≡ (Opened, v) → Inv K (record { bays = n; length = length w.memory.slots; base = base }) [] (record { dock = v.dock; memory = v.memory; trays = v.trays })
-    go (Some r) is may e = absurd (let z : ◌≡◌ {A = ℕ} 0 1 = cc (ap (λ x. x.0) e) in omega arith)
+    go (Some r) is may e = cc (ap (λ x. x.0) e)
     go None is may e =
         let ok = no_reason (reasons w (Open n life base)) is in
         subst (λ x. Inv K (record { bays = n; length = length w.memory.slots; base = base }) [] (record { dock = x.1.dock; memory = x.1.memory; trays = x.1.trays })) e

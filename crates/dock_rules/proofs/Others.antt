@@ -28,7 +28,7 @@ module _ {E : Type 0} (L base : ℕ) where
   pub idle_runs : (v : View E) (now : ℕ) (run : Option (Running E)) (rec : BayRecord) (mk : _) (tr : Option E) → Knows L base v now run rec mk tr → attempt rec ≡ None → run ≡ None
   idle_runs v now None rec mk tr k e = refl
   idle_runs v now (Some r) Idle mk tr k e = absurd k
-  idle_runs v now (Some r) (UnderWay a) mk tr k e = absurd (let z : ◌≡◌ {A = ℕ} 0 1 = cc in omega arith)
+  idle_runs v now (Some r) (UnderWay a) mk tr k e = cc
   idle_runs v now (Some r) (Ended s o) mk tr k e = absurd k
   idle_runs v now (Some r) (Owed s) mk tr k e = absurd k
 
@@ -40,21 +40,21 @@ module _ {E : Type 0} (L base : ℕ) where
   -- nothing is to know of a bay with no call under way
   pub knows_idle : (v : View E) (now : ℕ) (rec : BayRecord) (mk : _) (tr : Option E) → attempt rec ≡ None → Knows L base v now None rec mk tr
   knows_idle v now Idle mk tr e = tt
-  knows_idle v now (UnderWay a) mk tr e = absurd (let z : ◌≡◌ {A = ℕ} 0 1 = cc in omega arith)
+  knows_idle v now (UnderWay a) mk tr e = cc
   knows_idle v now (Ended s o) mk tr e = tt
   knows_idle v now (Owed s) mk tr e = tt
 
 -- and it is not early
 pub idle-early : (rec : BayRecord) → attempt rec ≡ None → early rec ≡ 0
 idle-early Idle e = refl
-idle-early (UnderWay a) e = absurd (let z : ◌≡◌ {A = ℕ} 0 1 = cc in omega arith)
+idle-early (UnderWay a) e = cc
 idle-early (Ended s o) e = refl
 idle-early (Owed s) e = refl
 
 -- nor early of any serial
 pub idle_early_by : (x : ℕ) (rec : BayRecord) → attempt rec ≡ None → early_by x rec ≡ 0
 idle_early_by x Idle e = refl
-idle_early_by x (UnderWay a) e = absurd (let z : ◌≡◌ {A = ℕ} 0 1 = cc in omega arith)
+idle_early_by x (UnderWay a) e = cc
 idle_early_by x (Ended s o) e = refl
 idle_early_by x (Owed s) e = refl
 
