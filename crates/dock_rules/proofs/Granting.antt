@@ -34,24 +34,15 @@ no_reason (t ∷ ts) e = go t.0 refl (no_reason ts) e
 
 -- a free bay has no call under way
 free-idle : (r : BayRecord) → is_free r ≡ true → attempt r ≡ None
-free-idle Idle e = refl
-free-idle (UnderWay a) e = absurd (false≢true e)
-free-idle (Ended s o) e = refl
-free-idle (Owed s) e = refl
+free-idle r e = grind arith
 
 -- nor has one whose ended call has been collected
 end_idle : (x : ℕ) (o : Outcome) → attempt (after_end x o) ≡ None
-end_idle x Full = refl
-end_idle x Stored = refl
-end_idle x Empty = refl
-end_idle x Taken = refl
+end_idle x o = grind arith
 
 -- nor has one that is owed an entry
 owed-idle : (x : ℕ) (r : BayRecord) → is_it x (owed_of r) ≡ true → attempt r ≡ None
-owed-idle x Idle e = refl
-owed-idle x (UnderWay a) e = absurd (false≢true e)
-owed-idle x (Ended s o) e = refl
-owed-idle x (Owed s) e = refl
+owed-idle x r e = grind arith
 
 module _ {E : Type 0} {K : ℕ} {st : Start} {h : List (Moment E)} {s : State E} (i : Inv K st h s) where
   -- the invariant after a call that answers and leaves so

@@ -1,6 +1,7 @@
 -- A dock just opened. Assumes nothing.
 use Rattle.std.proofs.Common.{◌≡◌, ℕ, zero, suc, ◌+◌, ◌^◌, ◌<◌, ◌≤◌, true, false, eqb, ltb, List, [], length, get_or, replicate, IfNone, Some, None, Option, refl, ap, subst, arith}
 use lib.ListN.{length-replicate}
+use Rattle.std.proofs.lemmas.List.{get_or-replicate, get_or_past}
 use Rattle.std.proofs.lemmas.Bool.{not-false, and_parts, or_parts, ltb-true, ltb-false, leb-true, eqb-true}
 use Rattle.slot_memory.specs.Meaning.{Meaning}
 use Rattle.slot_memory.specs.Rules.{Free, cleared}
@@ -18,9 +19,7 @@ use Rattle.dock_rules.proofs.Others.{knows_idle}
 
 -- a list of one value has it everywhere
 all_same : {X : Type 0} (n i : ℕ) (x : X) → get_or (replicate n x) i x ≡ x
-all_same zero i x = refl
-all_same (suc n) zero x = refl
-all_same (suc n) (suc i) x = all_same n i x
+all_same n i x = grind (arith, get_or-replicate, get_or_past, length-replicate)
 
 module _ {E : Type 0} (K n life base : ℕ) (m : Meaning E) (trays : List E) (spare : ℕ) (fits : base < 2 ^ 32) (long : length trays ≡ n) (low : spare ≤ K) (good : good_length (length m.slots) ≡ true) (bays : bad_bays n ≡ false) (lasts : bad_life life ≡ false) where
   abbrev start : Start

@@ -48,13 +48,11 @@ module _ {E : Type 0} {K : ℕ} {st : Start} {h : List (Moment E)} {s : State E}
 
   -- a fresh call is early
   one : (a : Request E) → early (UnderWay (record { serial = serial; line = first_line a; index = 0; held = false })) ≡ 1
-  one (PutOf e) = refl
-  one TakeOf = refl
+  one a = grind arith
 
   -- by its serial
   one_by : (x : ℕ) (a : Request E) → early_by x (UnderWay (record { serial = serial; line = first_line a; index = 0; held = false })) ≡ cond (eqb serial x) 1 0
-  one_by x (PutOf e) = refl
-  one_by x TakeOf = refl
+  one_by x a = grind arith
 
   -- so one more is early
   grows : sum_to st.bays (λ c. early (record_of started.dock c)) ≡ sum_to st.bays (λ c. early (record_of s.dock c)) + 1
@@ -84,8 +82,7 @@ module _ {E : Type 0} {K : ℕ} {st : Start} {h : List (Moment E)} {s : State E}
 
   -- a call's first line is of its request's side
   asks_side : (a : Request E) → side_of a ≡ side (first_line a)
-  asks_side (PutOf e) = refl
-  asks_side TakeOf = refl
+  asks_side a = grind arith
 
   -- no index is noted at line 5
   first-noted : (a : Request E) (P : Type 0) → Noted (stage (first_line a)) P

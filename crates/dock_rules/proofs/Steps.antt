@@ -62,8 +62,7 @@ single (w ∷ x ∷ ws) h k = absurd (omega arith)
 
 -- an option that is not some is none
 none_or_some : {X : Type 0} (o : Option X) → (is_some o ≡ false → o ≡ None)
-none_or_some None h = refl
-none_or_some (Some x) h = absurd (true≢false h)
+none_or_some o h = grind arith
 
 module _ {E : Type 0} {K : ℕ} {st : Start} {h : List (Moment E)} {s : State E} (i : Inv K st h s) where
   abbrev v : View E

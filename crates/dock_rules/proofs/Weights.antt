@@ -15,8 +15,7 @@ use Rattle.dock_rules.proofs.Invariant.{early_by, hits, weight}
 
 -- what a test weighs is at most one
 pub at_most_one : (t : Bool) → cond t 1 0 ≤ 1
-at_most_one true = omega arith
-at_most_one false = omega arith
+at_most_one t = grind arith
 
 -- a call before its slot store weighs one
 pub early_own : (a : Attempt) → ltb (number a.line) 16 ≡ true → early_by a.serial (UnderWay a) ≡ 1
