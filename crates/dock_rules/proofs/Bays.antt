@@ -1,5 +1,5 @@
 -- Marks, trays and records of one bay and of the others, after one of them is changed. Assumes nothing.
-use Rattle.std.proofs.Common.{◌≡◌, ℕ, zero, suc, ◌<◌, true, cond, eqb, List, [], ◌∷◌, map, length, get_or, set, is_some, Some, None, Option, sym, refl, ap, ◌∙◌, le_of_suc-le-suc, arith}
+use Rattle.std.proofs.Common.{◌≡◌, ℕ, ◌<◌, true, cond, eqb, List, map, length, get_or, set, is_some, Some, None, Option, sym, refl, ap, ◌∙◌, arith}
 use Rattle.std.specs.List.{slice_get}
 use Rattle.std.proofs.Math.ListN.{get_or-map}
 use Rattle.std.proofs.lemmas.Grind.{common_steps}
@@ -79,11 +79,7 @@ module _ {E : Type 0} (b now : ℕ) (count : Side → ℕ) (run : ℕ → Option
 
   -- an event about bay b leaves the call of every other bay
   pub runs_other : (ev : Event E) (c : ℕ) → About ev → (c ≡ b → ⊥) → running_after ev c now count (run c) ≡ run c
-  runs_other (Starts e q s) c is n = away c e _ _ is n
-  runs_other (Goes e l) c is n = away c e _ _ is n
-  runs_other (Stops e o) c is n = away c e _ _ is n
-  runs_other (Gives e a) c is n = away c e _ _ is n
-  runs_other Quiet c is n = refl
+  runs_other ev c is n = grind arith
 
   -- the call that has begun runs in bay b
   pub starts_own : (q : Request E) (s : ℕ) → running_after (Starts b q s) b now count (run b) ≡ Some (begins q s now)

@@ -2,12 +2,11 @@
 use Rattle.std.proofs.Common.{◌≡◌, ℕ, ◌<◌, Bool, true, false, cond, not, eqb, leb, List, [], ◌∷◌, length, set, IfSome, IfNone, Some, None, Option, sym, refl, ap, ◌∙◌, subst, inl, inr, arith, length-set}
 use Rattle.std.specs.List.{slice_get}
 use Rattle.std.specs.Option as options
-use Rattle.std.proofs.lemmas.Bool.{true≢false, false≢true, eqb-true, eq-eqb, ne_eqb, leb-false, not-false, cond-false}
+use Rattle.std.proofs.lemmas.Bool.{true≢false, eqb-true, eq-eqb, ne_eqb, leb-false, not-false, cond-false}
 use Rattle.slot_memory.specs.Rules.{Free, touched, May}
 use Rattle.dock_rules.specs.declared.BayRecord.{BayRecord}
 use Rattle.dock_rules.specs.declared.BayRecord.TheVariants.{Free as Idle, UnderWay, Ended, Owed}
 use Rattle.dock_rules.specs.declared.Outcome.{Outcome}
-use Rattle.dock_rules.specs.declared.Outcome.TheVariants.{Full, Stored, Empty, Taken}
 use Rattle.dock_rules.specs.declared.Refusal.{Refusal}
 use Rattle.dock_rules.specs.Calls.{World, Book, Call, Open, Put, Take, Step, Collect, Abandon, Enter, Waive, Answer, Refused, Settled, is_free, attempt, outcome, serial_of, owed_of, is_it, first, reasons, refusal, record_of, after_end, step, stepped, collect, abandon, granted, answered, does, attempted, next_operation, touches, MayCall}
 use Rattle.dock_rules.specs.History.{Moment, PutOf, TakeOf, Quiet, event_of}
@@ -51,14 +50,7 @@ module _ {E : Type 0} {K : ℕ} {st : Start} {h : List (Moment E)} {s : State E}
 
   -- a refused call is no event
   refused_quiet : (c : Call E) (r : Refusal) → event_of c (Refused r) ≡ Quiet
-  refused_quiet (Open n life base) r = refl
-  refused_quiet (Put b e) r = refl
-  refused_quiet (Take b) r = refl
-  refused_quiet (Step b) r = refl
-  refused_quiet (Collect b x) r = refl
-  refused_quiet (Abandon b x) r = refl
-  refused_quiet (Enter b x) r = refl
-  refused_quiet (Waive b x) r = refl
+  refused_quiet c r = grind arith
 
   -- the run's own trays are as many as the bays
   own_number : eqb (length s.trays) s.dock.bays ≡ true
@@ -75,8 +67,7 @@ module _ {E : Type 0} {K : ℕ} {st : Start} {h : List (Moment E)} {s : State E}
 
   -- trays of that number are the run's own
   handed_own : (t : List E) → Handed s t → not (eqb (length t) s.dock.bays) ≡ false → t ≡ s.trays
-  handed_own t (inl e) k = e
-  handed_own t (inr n) k = absurd (n (eqb-true _ _ (not-false _ k)))
+  handed_own t hd k = grind arith
 
   -- a call that is handed the run's trays
   with_own : (c : Call E) (an : Answer) (w : World E) → Inv K st (moment_of c an (record { dock = w.dock; memory = w.memory; trays = w.trays }) ∷ h) (record { dock = w.dock; memory = w.memory; trays = w.trays }) → After c s.trays (an, w)

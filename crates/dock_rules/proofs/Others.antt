@@ -6,7 +6,7 @@ use Rattle.dock_rules.specs.declared.Abandoned.{Abandoned}
 use Rattle.dock_rules.specs.declared.Abandoned.TheVariants.{Untouched, Stored as StoredAway, Taken as TakenAway}
 use Rattle.dock_rules.specs.declared.Attempt.{Attempt}
 use Rattle.dock_rules.specs.declared.BayRecord.{BayRecord}
-use Rattle.dock_rules.specs.declared.BayRecord.TheVariants.{Free as Idle, UnderWay, Ended, Owed}
+use Rattle.dock_rules.specs.declared.BayRecord.TheVariants.{UnderWay}
 use Rattle.dock_rules.specs.Words.{Putting, Taking, side, is_taking, number}
 use Rattle.dock_rules.specs.Calls.{Call, Answer, Abandon, Left, attempt, record_of, left_at, after_left}
 use Rattle.dock_rules.specs.History.{Moment, Running, Quiet, event_of, running_after, stored_by, turned_by, ended_by, untouched_by, is_untouched, when, alterations, running}
@@ -35,10 +35,7 @@ module _ {E : Type 0} (L base : ℕ) where
 
   -- nothing is to know of a bay with no call under way
   pub knows_idle : (v : View E) (now : ℕ) (rec : BayRecord) (mk : _) (tr : Option E) → attempt rec ≡ None → Knows L base v now None rec mk tr
-  knows_idle v now Idle mk tr e = tt
-  knows_idle v now (UnderWay a) mk tr e = cc
-  knows_idle v now (Ended s o) mk tr e = tt
-  knows_idle v now (Owed s) mk tr e = tt
+  knows_idle v now rec mk tr e = grind arith
 
 -- and it is not early
 pub idle-early : (rec : BayRecord) → attempt rec ≡ None → early rec ≡ 0

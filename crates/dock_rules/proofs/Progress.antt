@@ -26,8 +26,7 @@ passes [] e = tt
 passes (t ∷ ts) e = let p = passed t.0 t.1 (first ts) e in (p.0, passes ts p.1)
   where
     passed : (b : Bool) (r : Refusal) (o : Option Refusal) → cond b (Some r) o ≡ None → (b ≡ false) × (o ≡ None)
-    passed true r o e = (cc, cc)
-    passed false r o e = (refl, e)
+    passed b r o e = grind arith
 
 -- a record with an attempt is that of a call under way
 under_way : (r : BayRecord) (a : Attempt) → attempt r ≡ Some a → r ≡ UnderWay a

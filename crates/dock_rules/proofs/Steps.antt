@@ -70,23 +70,19 @@ module _ {E : Type 0} {K : ℕ} {st : Start} {h : List (Moment E)} {s : State E}
 
   -- a side's count, as the history has it
   count_is : (o : Side) → count v o ≡ st.base + alterations st.base h o
-  count_is Putting = refl
-  count_is Taking = refl
+  count_is o = grind arith
 
   -- no count goes further than the lifetime
   count_high : (o : Side) → count v o ≤ st.base + 2147483648
-  count_high Putting = omega (arith, i.inner.room, i.inner.static.started, i.inner.static.life)
-  count_high Taking = omega (arith, i.inner.room, i.inner.static.started, i.inner.static.life)
+  count_high o = grind arith
 
   -- a count is within its limit, which goes no further than the lifetime and a ring
   lim_high : (o : Side) → (count v o ≤ lim st.length st.base v o) × (lim st.length st.base v o ≤ st.base + 2147484672)
-  lim_high Putting = (omega (arith, i.inner.shared.tail, i.inner.shared.room), omega (arith, count_high Taking, i.inner.static.short))
-  lim_high Taking = (omega (arith, i.inner.shared.tail), omega (arith, count_high Putting))
+  lim_high o = grind arith
 
   -- at most one call waits on a side
   one_waits : (o : Side) → length (wait v o) ≤ 1
-  one_waits Putting = i.inner.shared.one_put
-  one_waits Taking = i.inner.shared.one_take
+  one_waits o = grind arith
 
   -- the slot at the index is not as the side wants it only where a call of that side waits
   busy_behind : (o : Side) → count v o < lim st.length st.base v o → outrun o (is_some (content st.length st.base v (count v o))) ≡ true → Behind v o
