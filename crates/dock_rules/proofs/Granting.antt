@@ -1,5 +1,5 @@
 -- Every call of every run, granted or refused, keeps the invariant. Assumes nothing.
-use Rattle.std.proofs.Common.{◌≡◌, ℕ, ◌<◌, Bool, true, false, cond, not, eqb, leb, List, [], ◌∷◌, length, set, IfSome, IfNone, Some, None, Option, sym, refl, ap, ◌∙◌, subst, inl, inr, arith, length-set}
+use Rattle.std.proofs.Common.{◌≡◌, ℕ, ◌<◌, Bool, true, false, cond, not, eqb, leb, List, ◌∷◌, length, set, IfSome, IfNone, Some, None, Option, sym, refl, ap, ◌∙◌, subst, inl, inr, arith, length-set}
 use Rattle.std.specs.List.{slice_get}
 use Rattle.std.specs.Option as options
 use Rattle.std.proofs.lemmas.Bool.{true≢false, eqb-true, eq-eqb, ne_eqb, leb-false, not-false, cond-false}
@@ -8,28 +8,16 @@ use Rattle.dock_rules.specs.declared.BayRecord.{BayRecord}
 use Rattle.dock_rules.specs.declared.BayRecord.TheVariants.{Free as Idle, UnderWay, Ended, Owed}
 use Rattle.dock_rules.specs.declared.Outcome.{Outcome}
 use Rattle.dock_rules.specs.declared.Refusal.{Refusal}
-use Rattle.dock_rules.specs.Calls.{World, Book, Call, Open, Put, Take, Step, Collect, Abandon, Enter, Waive, Answer, Refused, Settled, is_free, attempt, outcome, serial_of, owed_of, is_it, first, reasons, refusal, record_of, after_end, step, stepped, collect, abandon, granted, answered, does, attempted, next_operation, touches, MayCall}
-use Rattle.dock_rules.specs.History.{Moment, PutOf, TakeOf, Quiet, event_of}
+use Rattle.dock_rules.specs.Calls.{World, Book, Call, Open, Put, Take, Step, Collect, Abandon, Enter, Waive, Answer, Refused, Settled, is_free, attempt, outcome, serial_of, owed_of, is_it, reasons, refusal, record_of, after_end, step, stepped, collect, abandon, granted, answered, does, attempted, next_operation, touches, MayCall}
+use Rattle.dock_rules.specs.History.{Moment, PutOf, TakeOf}
 use Rattle.dock_rules.specs.Runs.{Start, State, handing, Handed, carried, moment_of}
+use Rattle.dock_rules.specs.Law.{Each}
 use Rattle.dock_rules.proofs.Invariant.{Inv}
+use Rattle.dock_rules.proofs.Reasons.{no_reason, refused_quiet}
 use Rattle.dock_rules.proofs.Bays.{nth_set_same, nth_set_other, nth_some}
 use Rattle.dock_rules.proofs.Stepping.{steps}
 use Rattle.dock_rules.proofs.Others.{runs_call, quiet, settles, gives_up}
 use Rattle.dock_rules.proofs.Starting.{starts}
-
--- no reason applies
-abbrev pub NoReason : List (Bool × Refusal) → Type 0
-NoReason [] = Unit {0}
-NoReason (t ∷ ts) = (t.0 ≡ false) × NoReason ts
-
--- where no refusal is first, none applies
-pub no_reason : (ts : List (Bool × Refusal)) → first ts ≡ None → NoReason ts
-no_reason [] e = tt
-no_reason (t ∷ ts) e = go t.0 refl (no_reason ts) e
-  where
-    go : (x : Bool) → t.0 ≡ x → (first ts ≡ None → NoReason ts) → cond x (Some t.1) (first ts) ≡ None → (t.0 ≡ false) × NoReason ts
-    go true same rest e = cc
-    go false same rest e = (same, rest e)
 
 -- a free bay has no call under way
 free-idle : (r : BayRecord) → is_free r ≡ true → attempt r ≡ None
@@ -47,10 +35,6 @@ module _ {E : Type 0} {K : ℕ} {st : Start} {h : List (Moment E)} {s : State E}
   -- the invariant after a call that answers and leaves so
   abbrev After : Call E → List E → Answer × World E → Type 0
   After c t x = Inv K st (moment_of c x.0 (carried s t x.1) ∷ h) (carried s t x.1)
-
-  -- a refused call is no event
-  refused_quiet : (c : Call E) (r : Refusal) → event_of c (Refused r) ≡ Quiet
-  refused_quiet c r = grind arith
 
   -- the run's own trays are as many as the bays
   own_number : eqb (length s.trays) s.dock.bays ≡ true
@@ -132,7 +116,7 @@ module _ {E : Type 0} {K : ℕ} {st : Start} {h : List (Moment E)} {s : State E}
   put_tray b e t is lt = nth_set_same t b e (subst (λ x. b < length x) (sym is) (long b lt))
 
   -- a call that nothing turns down
-  grants : (c : Call E) (t : List E) (k : Book E) (f : Free) → Handed s t → NoReason (reasons (handing s t k) c) → IfSome (touches (handing s t k) c) (λ o. May K s.memory o f) → After c t (granted (handing s t k) c f)
+  grants : (c : Call E) (t : List E) (k : Book E) (f : Free) → Handed s t → Each (λ x. x.0 ≡ false) (reasons (handing s t k) c) → IfSome (touches (handing s t k) c) (λ o. May K s.memory o f) → After c t (granted (handing s t k) c f)
   grants (Open n life base) t k f hd ok may = absurd (true≢false (sym i.inner.static.opened ∙ ok.0))
   grants (Put b e) t k f hd ok may =
       let lt = inside_of b ok.1.1.0 in

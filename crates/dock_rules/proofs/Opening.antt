@@ -14,7 +14,7 @@ use Rattle.dock_rules.specs.Runs.{Start, State}
 use Rattle.dock_rules.proofs.Ring.{ring_empty}
 use Rattle.dock_rules.proofs.Sums.{sum_to, sum-most}
 use Rattle.dock_rules.proofs.Invariant.{early, early_by, view_of, Inv}
-use Rattle.dock_rules.proofs.Granting.{no_reason}
+use Rattle.dock_rules.proofs.Reasons.{no_reason}
 use Rattle.dock_rules.proofs.Others.{knows_idle}
 
 -- a list of one value has it everywhere
