@@ -1,29 +1,18 @@
 -- When a call does what the rules say. Assumes nothing.
-use Rattle.std.proofs.Common.{◌≡◌, ℕ, ◌+◌, ◌<◌, ◌≤◌, true, false, List, [], ◌∷◌, length, IfSome, IfNone, OnErr, Some, None, Ok, Err, Option, Result, sym, refl, ap, ◌∙◌, subst, arith, get_or-set_same}
+use Rattle.std.proofs.Common.{◌≡◌, ℕ, ◌<◌, true, false, [], ◌∷◌, length, IfSome, IfNone, OnErr, Some, None, Ok, Err, Option, Result, sym, refl, ap, ◌∙◌, subst, arith}
 use Rattle.std.proofs.lemmas.Bool.Decides.{nat_tests}
-use Rattle.std.specs.List.{slice_get}
 use Rattle.slot_memory.specs.Meaning.{Meaning}
 use Rattle.slot_memory.specs.Rules.{Operation, Clear, Reply, Done, Free, May, Keeps, seen}
-use Rattle.dock_rules.specs.declared.Line.{Line}
 use Rattle.dock_rules.specs.declared.Line.TheVariants.{D5}
 use Rattle.dock_rules.specs.declared.Refusal.{Refusal}
 use Rattle.dock_rules.specs.declared.Refusal.TheVariants as why
-use Rattle.dock_rules.specs.declared.Abandoned.{Abandoned}
-use Rattle.dock_rules.specs.declared.Abandoned.TheVariants as away
 use Rattle.dock_rules.specs.declared.Attempt.{Attempt}
 use Rattle.dock_rules.specs.declared.BayRecord.{BayRecord}
 use Rattle.dock_rules.specs.declared.BayRecord.TheVariants.{Free as Idle, UnderWay, Ended, Owed}
 use Rattle.dock_rules.specs.declared.DockState.{DockState}
-use Rattle.dock_rules.specs.declared.Outcome.{Outcome}
-use Rattle.dock_rules.specs.declared.Outcome.TheVariants.{Full, Stored, Empty, Taken}
-use Rattle.dock_rules.specs.Calls.{World, Call, Open, Take, Step, Collect, Abandon, Enter, Answer, Refused, Opened, Began, End, Settled, record_of, attempt, outcome, refusal, opened, begun, with_record, with_dock, after_end, after_left, left_at, enter_tray, next_operation, stepped, step, collect, abandon, answered, granted, attempted, touches}
-use Rattle.dock_rules.specs.Calls as rules
-use Rattle.dock.specs.declared.Collected.{Collected}
-use Rattle.dock.specs.declared.Collected.TheVariants as collected
-use Rattle.dock.specs.declared.Left.{Left}
-use Rattle.dock.specs.declared.Left.TheVariants as left
+use Rattle.dock_rules.specs.Calls.{World, Call, Open, Take, Step, Answer, Refused, Opened, record_of, attempt, refusal, opened, next_operation, stepped, step, answered, granted, attempted, touches}
 use Rattle.dock.specs.Checks.{Checks, Begins, no_bay, busy, worn}
-use Rattle.dock.specs.Answered.{start_answer, collect_answer, abandon_answer, Out, CollectedFor, LeftFor, CollectedOut, LeftOut}
+use Rattle.dock.specs.Answered.{start_answer}
 use Rattle.dock.specs.Does.{Does}
 
 -- free results for a call that uses none

@@ -4,8 +4,7 @@
 --   test    a reason with whether it applies, as the rules have it of a world
 --
 -- Assumes nothing.
-use Rattle.std.specs.Prelude.{◌≡◌, ℕ, ◌+◌, ◌<◌, Bool, true, not, List, [], ◌∷◌, length, Some, Ok, Err, Result, ◌==◌, nat_le}
-use Rattle.dock_rules.specs.declared.BayRecord.TheVariants.{Owed}
+use Rattle.std.specs.Prelude.{◌≡◌, ℕ, ◌+◌, ◌<◌, Bool, true, not, List, length, Some, Ok, Err, Result, ◌==◌, nat_le}
 use Rattle.dock_rules.specs.declared.DockState.{DockState}
 use Rattle.dock_rules.specs.declared.Line.{Line}
 use Rattle.dock_rules.specs.declared.Refusal.{Refusal}

@@ -1,14 +1,13 @@
 -- The bay's call of a serial, and the reasons for which a collect and an abandon find none.
 -- Assumes nothing.
-use Rattle.std.specs.Prelude.{◌≡◌, ℕ, ◌<◌, true, not, [], ◌∷◌, Some, Ok, Err, Result, nat_le}
+use Rattle.std.specs.Prelude.{◌≡◌, ℕ, ◌<◌, true, [], ◌∷◌, Some, Ok, Err, Result}
 use Rattle.dock_rules.specs.declared.Attempt.{Attempt}
 use Rattle.dock_rules.specs.declared.BayRecord.TheVariants.{UnderWay, Ended}
 use Rattle.dock_rules.specs.declared.DockState.{DockState}
 use Rattle.dock_rules.specs.declared.Line.{Line}
 use Rattle.dock_rules.specs.declared.Outcome.{Outcome}
 use Rattle.dock_rules.specs.declared.Refusal.{Refusal}
-use Rattle.dock_rules.specs.declared.Refusal.TheVariants as why
-use Rattle.dock_rules.specs.Calls.{record_of, serial_of, is_it, first}
+use Rattle.dock_rules.specs.Calls.{record_of, first}
 use Rattle.dock.specs.Checks.{shut, no_bay, no_call}
 use Rattle.dock.specs.declared.Found.{Found}
 use Rattle.dock.specs.declared.Found.TheVariants as found

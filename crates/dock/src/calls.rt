@@ -222,7 +222,7 @@ impl<M: SlotMemory> Dock<M> {
 impl<M: SlotMemory> Dock<M> {
     // The dock is open.
     fn check_open(&self) -> Result<(), Refusal>
-        ensures { Checks (shut self.now.state ∷ []) (λ _. self.now.state.opened ≡ true) result }
+        ensures { let d = self.now.state in Checks (shut d ∷ []) (λ _. d.opened ≡ true) result }
     {
         if self.state.opened {
             Ok(())
@@ -233,10 +233,7 @@ impl<M: SlotMemory> Dock<M> {
 
     // It is open, and as many trays are handed over as it has bays.
     fn check_trays(&self, handed: &[M::Element]) -> Result<(), Refusal>
-        ensures {
-            Checks (shut self.now.state ∷ other_trays self.now.state (length handed.now) ∷ [])
-            (λ _. (self.now.state.opened ≡ true) × (length handed.now ≡ self.now.state.bays)) result
-        }
+        ensures { let d = self.now.state in Checks (shut d ∷ other_trays d (length handed.now) ∷ []) (λ _. (d.opened ≡ true) × (length handed.now ≡ d.bays)) result }
     {
         self.check_open()?;
         if handed.len() == self.state.bays as usize {
@@ -248,10 +245,7 @@ impl<M: SlotMemory> Dock<M> {
 
     // The record of the bay of that number.
     fn record(&self, bay: Bay) -> Result<BayRecord, Refusal>
-        ensures {
-            Checks (no_bay self.now.state bay ∷ [])
-            (λ found. (bay < self.now.state.bays) × (found ≡ record_of self.now.state bay)) result
-        }
+        ensures { let d = self.now.state in Checks (no_bay d bay ∷ []) (λ found. (bay < d.bays) × (found ≡ record_of d bay)) result }
     {
         if bay < self.state.bays {
             Ok(self.state.records[bay as usize])
@@ -262,10 +256,7 @@ impl<M: SlotMemory> Dock<M> {
 
     // Starts a call at the bay, if it is free and calls are left. Answers the call's serial.
     fn begin(&mut self, bay: Bay, line: Line) -> Result<u32, Refusal>
-        ensures begins {
-            Checks (no_bay self.old.state bay ∷ busy self.old.state bay ∷ worn self.old.state ∷ [])
-            (λ serial. Begins self.old.state bay line serial self.new.state) result
-        }
+        ensures begins { let d = self.old.state in Checks (no_bay d bay ∷ busy d bay ∷ worn d ∷ []) (λ serial. Begins d bay line serial self.new.state) result }
         ensures unmoved { OnErr result (self.new.state ≡ self.old.state) }
         ensures memory { self.new.memory ≡ self.old.memory }
     {
@@ -300,10 +291,7 @@ impl<M: SlotMemory> Dock<M> {
 
     // The bay's receipt of that serial is out.
     fn check_owed(&self, bay: Bay, serial: u32) -> Result<(), Refusal>
-        ensures {
-            Checks (no_bay self.now.state bay ∷ no_receipt self.now.state bay serial ∷ [])
-            (λ _. (bay < self.now.state.bays) × (record_of self.now.state bay ≡ BayRecord.Owed serial)) result
-        }
+        ensures { let d = self.now.state in Checks (no_bay d bay ∷ no_receipt d bay serial ∷ []) (λ _. (bay < d.bays) × (record_of d bay ≡ BayRecord.Owed serial)) result }
     {
         match self.record(bay)? {
             BayRecord::Owed(owed) if owed == serial => Ok(()),
@@ -318,12 +306,7 @@ impl<M: SlotMemory> Dock<M> {
         trays: &[M::Element],
         book: &Book<'_, M::Element>,
     ) -> Result<(), Refusal>
-        ensures {
-            let d = self.now.state in
-            let x = receipt.now in
-            Checks (shut d ∷ other_trays d (length trays.now) ∷ no_bay d x.bay ∷ no_receipt d x.bay x.serial ∷ full book.now ∷ [])
-            (λ _. Out d x × (length trays.now ≡ d.bays) × (book.now.entered < length book.now.row.now)) result
-        }
+        ensures { let d = self.now.state in let x = receipt.now in Checks (shut d ∷ other_trays d (length trays.now) ∷ no_bay d x.bay ∷ no_receipt d x.bay x.serial ∷ full book.now ∷ []) (λ _. Out d x × (length trays.now ≡ d.bays) × (book.now.entered < length book.now.row.now)) result }
     {
         self.check_trays(trays)?;
         self.check_owed(receipt.bay, receipt.serial)?;
@@ -336,11 +319,7 @@ impl<M: SlotMemory> Dock<M> {
 
     // The receipt may be waived.
     fn check_waiver(&self, receipt: &Receipt) -> Result<(), Refusal>
-        ensures {
-            let d = self.now.state in
-            let x = receipt.now in
-            Checks (shut d ∷ no_bay d x.bay ∷ no_receipt d x.bay x.serial ∷ []) (λ _. Out d x) result
-        }
+        ensures { let d = self.now.state in let x = receipt.now in Checks (shut d ∷ no_bay d x.bay ∷ no_receipt d x.bay x.serial ∷ []) (λ _. Out d x) result }
     {
         self.check_open()?;
         self.check_owed(receipt.bay, receipt.serial)

@@ -232,5 +232,4 @@ impl fmt::Display for Refusal {
 /// run of calls, each history that is reached is linearizable and keeps the progress bound.
 pub fn every_run_stands<E>()
     ensures { EveryRun E }
-{
-}
+{}

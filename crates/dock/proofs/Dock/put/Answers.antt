@@ -1,8 +1,6 @@
 use Rattle.std.proofs.Common.{refl, ap, rules, arith}
 use Rattle.std.proofs.lemmas.Bool.Decides.{nat_tests}
 use Rattle.std.proofs.lemmas.Result.{err_from_is_err_and}
-use Rattle.dock_rules.specs.declared.Line.TheVariants.{E5}
-use Rattle.dock_rules.specs.Calls.{Put}
 use Rattle.dock.proofs.Lawful.{carries}
 use Rattle.dock.proofs.Doing.{turned_down, not_begun, granted_dry}
 use Rattle.dock.proofs.Dock.put.Goals as goal
