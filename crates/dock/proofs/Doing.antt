@@ -1,25 +1,18 @@
 -- When a call does what the rules say. Assumes nothing.
-use Rattle.std.proofs.Common.{◌≡◌, ℕ, ◌<◌, ◌≤◌, true, false, length, IfSome, IfNone, Some, None, Ok, Option, sym, refl, ap, ◌∙◌, subst, arith, get_or-set_same}
+use Rattle.std.proofs.Common.{◌≡◌, ℕ, ◌<◌, true, false, [], ◌∷◌, length, IfSome, IfNone, OnErr, Some, None, Ok, Err, Option, Result, sym, refl, ap, ◌∙◌, subst, arith}
 use Rattle.std.proofs.lemmas.Bool.Decides.{nat_tests}
-use Rattle.std.specs.List.{slice_get}
 use Rattle.slot_memory.specs.Meaning.{Meaning}
 use Rattle.slot_memory.specs.Rules.{Operation, Clear, Reply, Done, Free, May, Keeps, seen}
+use Rattle.dock_rules.specs.declared.Line.TheVariants.{D5}
 use Rattle.dock_rules.specs.declared.Refusal.{Refusal}
-use Rattle.dock_rules.specs.declared.Abandoned.{Abandoned}
-use Rattle.dock_rules.specs.declared.Abandoned.TheVariants as away
+use Rattle.dock_rules.specs.declared.Refusal.TheVariants as why
 use Rattle.dock_rules.specs.declared.Attempt.{Attempt}
 use Rattle.dock_rules.specs.declared.BayRecord.{BayRecord}
 use Rattle.dock_rules.specs.declared.BayRecord.TheVariants.{Free as Idle, UnderWay, Ended, Owed}
 use Rattle.dock_rules.specs.declared.DockState.{DockState}
-use Rattle.dock_rules.specs.declared.Outcome.{Outcome}
-use Rattle.dock_rules.specs.declared.Outcome.TheVariants.{Full, Stored, Empty, Taken}
-use Rattle.dock_rules.specs.Calls.{World, Call, Open, Step, Collect, Abandon, Enter, Answer, Refused, Opened, End, Settled, record_of, attempt, outcome, refusal, opened, with_record, with_dock, after_end, after_left, left_at, enter_tray, next_operation, stepped, step, collect, abandon, answered, granted, attempted, touches}
-use Rattle.dock_rules.specs.Calls as rules
-use Rattle.dock.specs.declared.Collected.{Collected}
-use Rattle.dock.specs.declared.Collected.TheVariants as collected
-use Rattle.dock.specs.declared.Left.{Left}
-use Rattle.dock.specs.declared.Left.TheVariants as left
-use Rattle.dock.specs.Answered.{collect_answer, abandon_answer, Out, CollectedFor, LeftFor, CollectedOut, LeftOut}
+use Rattle.dock_rules.specs.Calls.{World, Call, Open, Take, Step, Answer, Refused, Opened, record_of, attempt, refusal, opened, next_operation, stepped, step, answered, granted, attempted, touches}
+use Rattle.dock.specs.Checks.{Checks, Begins, no_bay, busy, worn}
+use Rattle.dock.specs.Answered.{start_answer}
 use Rattle.dock.specs.Does.{Does}
 
 -- free results for a call that uses none
@@ -56,82 +49,26 @@ module _ {E : Type 0} (K : ℕ) (w : World E) where
       granted_by K w (Open n life base) (Clear base) Done m _ _ refl none keeps
       (ap (λ x. (Opened, record { dock = opened n life; memory = x.1; trays = w.trays; book = w.book })) keeps.is)
 
-  not_idle : (b : ℕ) (call : Attempt) → w.dock.opened ≡ true → length w.trays ≡ w.dock.bays → b < w.dock.bays → record_of w.dock b ≡ UnderWay call → refusal w (Step b) ≡ None
-  not_idle b call o t h e = grind (arith, nat_tests)
+  -- a put or a take that the bay has turned down
+  pub not_begun : (c : Call E) (r : Refusal) (d : DockState) (m : Meaning E) → refusal w c ≡ Some r → d ≡ w.dock → m ≡ w.memory → Does K w c (Refused r) (record { dock = d; memory = m; trays = w.trays; book = w.book })
+  not_begun c r d m e left same = rw (left, same) (turned_down K w c r e)
 
-  pub stepping : (b : ℕ) (call : Attempt) (r : Reply E) (m : Meaning E) (a : Answer) (v : World E) → w.dock.opened ≡ true → length w.trays ≡ w.dock.bays → b < w.dock.bays → record_of w.dock b ≡ UnderWay call → Keeps K w.memory (next_operation w b call) r m → (a, v) ≡ stepped w b call (r, m) → Does K w (Step b) a v
-  stepping b call r m a v o t h e keeps d =
-      granted_by K w (Step b) (next_operation w b call) r m a v (ap (λ h. attempted w b (attempt h)) e) (not_idle b call o t h e) keeps
+  -- a take of an open dock: begun, or turned down for the bay
+  pub taking : (b : ℕ) (d : DockState) (m : Meaning E) (r : Result ℕ Refusal) → w.dock.opened ≡ true → Checks (no_bay w.dock b ∷ busy w.dock b ∷ worn w.dock ∷ []) (λ s. Begins w.dock b D5 s d) r → OnErr r (d ≡ w.dock) → m ≡ w.memory → Does K w (Take b) (start_answer r) (record { dock = d; memory = m; trays = w.trays; book = w.book })
+  taking b d m (Ok s) o begins left same = granted_dry K w (Take b) _ _ refl (grind (arith, nat_tests)) cc
+  taking b d m (Err r) o e left same = not_begun (Take b) r d m (grind (arith, nat_tests)) left same
+
+  -- a bay with no call under way is idle
+  no_attempt : (r : BayRecord) → ((a : Attempt) → r ≡ UnderWay a → ⊥) → attempt r ≡ None
+  no_attempt Idle none = refl
+  no_attempt (UnderWay a) none = absurd (none a refl)
+  no_attempt (Ended s o) none = refl
+  no_attempt (Owed s) none = refl
+
+  pub idling : (b : ℕ) (r : BayRecord) → w.dock.opened ≡ true → length w.trays ≡ w.dock.bays → b < w.dock.bays → r ≡ record_of w.dock b → ((a : Attempt) → r ≡ UnderWay a → ⊥) → Does K w (Step b) (Refused why.Idle) w
+  idling b r o t h e none = let idle = no_attempt r none in turned_down K w (Step b) why.Idle (grind (arith, nat_tests))
+
+  pub stepping : (b : ℕ) (call : Attempt) (r : Reply E) (m : Meaning E) (a : Answer) (v : World E) → refusal w (Step b) ≡ None → record_of w.dock b ≡ UnderWay call → Keeps K w.memory (next_operation w b call) r m → (a, v) ≡ stepped w b call (r, m) → Does K w (Step b) a v
+  stepping b call r m a v none e keeps d =
+      granted_by K w (Step b) (next_operation w b call) r m a v (ap (λ h. attempted w b (attempt h)) e) none keeps
       (d ∙ ap (stepped w b call) keeps.is ∙ ap (λ h. step w b (attempt h) (seen r m)) (sym e))
-
-  pub entering : (b s : ℕ) (e : E) → refusal w (Enter b s) ≡ None → slice_get w.trays b ≡ Some e → Does K w (Enter b s) Settled (record { dock = with_record w.dock b Idle; memory = w.memory; trays = w.trays; book = enter_tray w.book (Some e) })
-  entering b s e none lies =
-      granted_dry K w (Enter b s) _ _ refl none
-      (ap (λ x. (Settled, record { dock = with_record w.dock b Idle; memory = w.memory; trays = w.trays; book = enter_tray w.book x })) (sym lies))
-
--- what a collect notes of the bay, and what it hands out
-abbrev pub collecting : ℕ → ℕ → Outcome → BayRecord × Collected
-collecting b s Full = (Idle, collected.Full)
-collecting b s Stored = (Idle, collected.Stored)
-collecting b s Empty = (Idle, collected.Empty)
-collecting b s Taken = (Owed s, collected.Taken (record { bay = b; serial = s }))
-
--- and an abandon
-abbrev pub leaving : ℕ → ℕ → Abandoned → BayRecord × Left
-leaving b s away.Untouched = (Idle, left.Untouched)
-leaving b s away.Stored = (Idle, left.Stored)
-leaving b s away.Taken = (Owed s, left.Taken (record { bay = b; serial = s }))
-
-collecting_answers : (b s : ℕ) (o : Outcome) → ◌≡◌ {A = Answer × BayRecord} (collect_answer (Ok (collecting b s o).1), (collecting b s o).0) (End o, after_end s o)
-collecting_answers b s Full = refl
-collecting_answers b s Stored = refl
-collecting_answers b s Empty = refl
-collecting_answers b s Taken = refl
-
-leaving_answers : (b s : ℕ) (x : Abandoned) → ◌≡◌ {A = Answer × BayRecord} (abandon_answer (Ok (leaving b s x).1), (leaving b s x).0) (rules.Left x, after_left s x)
-leaving_answers b s away.Untouched = refl
-leaving_answers b s away.Stored = refl
-leaving_answers b s away.Taken = refl
-
-module _ (b s : ℕ) where
-  pub collecting_for : (o : Outcome) → CollectedFor b s (Ok (collecting b s o).1)
-  collecting_for Full = tt
-  collecting_for Stored = tt
-  collecting_for Empty = tt
-  collecting_for Taken = refl
-
-  pub leaving_for : (x : Abandoned) → LeftFor b s (Ok (leaving b s x).1)
-  leaving_for away.Untouched = tt
-  leaving_for away.Stored = tt
-  leaving_for away.Taken = refl
-
-module _ (d : DockState) (b s : ℕ) (is_open : d.opened ≡ true) (within : b < d.bays) (few : d.bays ≤ 16) (table : length d.records ≡ 16) where
-  -- a bay that notes its receipt holds it
-  handed : Out (with_record d b (Owed s)) (record { bay = b; serial = s })
-  handed = record { opened = is_open; bay = within; owed = get_or-set_same d.records b (Owed s) Idle (omega arith) }
-
-  pub collecting_out : (o : Outcome) → CollectedOut (with_record d b (collecting b s o).0) (Ok (collecting b s o).1)
-  collecting_out Full = tt
-  collecting_out Stored = tt
-  collecting_out Empty = tt
-  collecting_out Taken = handed
-
-  pub leaving_out : (x : Abandoned) → LeftOut (with_record d b (leaving b s x).0) (Ok (leaving b s x).1)
-  leaving_out away.Untouched = tt
-  leaving_out away.Stored = tt
-  leaving_out away.Taken = handed
-
-module _ {E : Type 0} (K : ℕ) (w : World E) (b s : ℕ) where
-  -- the bay's record is as given, and the answer
-  abbrev noted : Answer × BayRecord → Answer × World E
-  noted x = (x.0, with_dock w (with_record w.dock b x.1))
-
-  pub collecting_does : (r : ℕ) (o : Outcome) → refusal w (Collect b s) ≡ None → record_of w.dock b ≡ Ended r o → Does K w (Collect b s) (collect_answer (Ok (collecting b s o).1)) (with_dock w (with_record w.dock b (collecting b s o).0))
-  collecting_does r o none e =
-      granted_dry K w (Collect b s) _ _ refl none
-      (ap noted (collecting_answers b s o) ∙ ap (λ h. collect w b s (outcome h)) (sym e))
-
-  pub leaving_does : (a : Attempt) → refusal w (Abandon b s) ≡ None → record_of w.dock b ≡ UnderWay a → Does K w (Abandon b s) (abandon_answer (Ok (leaving b s (left_at a.line)).1)) (with_dock w (with_record w.dock b (leaving b s (left_at a.line)).0))
-  leaving_does a none e =
-      granted_dry K w (Abandon b s) _ _ refl none
-      (ap noted (leaving_answers b s (left_at a.line)) ∙ ap (λ h. abandon w b s (attempt h)) (sym e))

@@ -1,6 +1,3 @@
 pub mod Doing
 pub mod Running
-pub mod Ring
 pub mod Lawful
-pub mod Receipts
-pub mod Finding

@@ -1,14 +1,14 @@
 -- The bay's call of a serial, and the reasons for which a collect and an abandon find none.
 -- Assumes nothing.
-use Rattle.std.specs.Prelude.{◌≡◌, ℕ, ◌<◌, true, not, [], ◌∷◌, Some, Ok, Err, Result, nat_le}
+use Rattle.std.specs.Prelude.{◌≡◌, ℕ, ◌<◌, true, [], ◌∷◌, Some, Ok, Err, Result}
 use Rattle.dock_rules.specs.declared.Attempt.{Attempt}
 use Rattle.dock_rules.specs.declared.BayRecord.TheVariants.{UnderWay, Ended}
 use Rattle.dock_rules.specs.declared.DockState.{DockState}
 use Rattle.dock_rules.specs.declared.Line.{Line}
 use Rattle.dock_rules.specs.declared.Outcome.{Outcome}
 use Rattle.dock_rules.specs.declared.Refusal.{Refusal}
-use Rattle.dock_rules.specs.declared.Refusal.TheVariants as why
-use Rattle.dock_rules.specs.Calls.{record_of, serial_of, is_it, first}
+use Rattle.dock_rules.specs.Calls.{record_of, first}
+use Rattle.dock.specs.Checks.{shut, no_bay, no_call}
 use Rattle.dock.specs.declared.Found.{Found}
 use Rattle.dock.specs.declared.Found.TheVariants as found
 
@@ -32,4 +32,4 @@ abbrev pub FoundOf : DockState → ℕ → ℕ → Result Found Refusal → Type
 FoundOf d b s (Ok (found.UnderWay l)) = IsUnderWay d b s l
 FoundOf d b s (Ok (found.Ended o)) = HasEnded d b s o
 FoundOf d b s (Err r) =
-    first ((not d.opened, why.Shut) ∷ (nat_le d.bays b, why.Bay) ∷ (not (is_it s (serial_of (record_of d b))), why.Serial) ∷ []) ≡ Some r
+    first (shut d ∷ no_bay d b ∷ no_call d b s ∷ []) ≡ Some r

@@ -1,9 +1,10 @@
 // The calls on a dock. Each is turned down for the first reason that applies, in the order of
 // `Refusal`, and then alters nothing.
-ghost use Rattle.std.specs.Prelude.{◌≡◌, ◌+◌, ◌^◌, ◌<◌, true, length, is_ok, MatchResult};
+ghost use Rattle.std.specs.Prelude.{◌≡◌, ◌+◌, ◌<◌, true, [], ◌∷◌, length, is_ok, MatchResult, OnErr};
 ghost use Rattle.slot_memory.specs.Rules.{Clear, Done};
-ghost use Rattle.dock_rules.specs.Calls.{Open, Put, Take, Step, Collect, Abandon, Enter, Waive, good_length, is_it, owed_of, is_free, left_at, begun};
+ghost use Rattle.dock_rules.specs.Calls.{Open, Put, Take, Step, Collect, Abandon, Enter, Waive, good_length, record_of, left_at};
 ghost use Rattle.dock.specs.Answered.{open_answer, start_answer, step_answer, collect_answer, abandon_answer, settle_answer, CollectedFor, LeftFor, GivenBack, CollectedOut, LeftOut, RefusedLeaves, Out, Stays, StaysBut};
+ghost use Rattle.dock.specs.Checks.{Checks, Begins, shut, other_trays, no_bay, busy, worn, no_receipt, full};
 ghost use Rattle.dock.specs.Found.{FoundOf};
 ghost use Rattle.dock.specs.Does.{Does, DoesAlone, DoesOver, Carries, CarriesAlone, CarriesOver, StartsAlone, Ran, shut_state, book_of, world};
 
@@ -12,48 +13,20 @@ use crate::{Book, Collected, Dock, Found, Left, Receipt};
 use dock_rules::{Abandoned, Attempt, BayRecord, DockState, Line, Outcome, Refusal, Stepped};
 use slot_memory::{BAYS, Bay, SlotMemory};
 
+/// A dock that has not been opened.
+const SHUT: DockState = DockState {
+    opened: false,
+    bays: 0,
+    lifetime: 0,
+    started: 0,
+    records: [BayRecord::Free; BAYS as usize],
+};
+
 /// The longest ring.
 const LONGEST: u32 = 1024;
 
 /// The most calls that a dock may be opened for.
-const LONGEST_LIFE: u32 = 2147483648;
-
-// Whether a ring may have this many slots.
-fn fits_ring(length: u32) -> bool
-    ensures { result ≡ good_length length }
-{
-    length <= LONGEST && length.is_power_of_two()
-}
-
-fn is_free(record: BayRecord) -> bool
-    ensures { result ≡ is_free «record» }
-{
-    match record {
-        BayRecord::Free => true,
-        BayRecord::UnderWay(_) | BayRecord::Ended(_, _) | BayRecord::Owed(_) => false,
-    }
-}
-
-// Whether the bay's receipt of this serial is out.
-fn owes(record: BayRecord, serial: u32) -> bool
-    ensures { result ≡ is_it serial (owed_of «record») }
-{
-    match record {
-        BayRecord::Owed(owed) => owed == serial,
-        BayRecord::Free | BayRecord::UnderWay(_) | BayRecord::Ended(_, _) => false,
-    }
-}
-
-// What becomes of a call that is given up at this line.
-fn left_at(line: Line) -> Abandoned
-    ensures { result ≡ left_at line }
-{
-    match line {
-        Line::E16 | Line::E17 => Abandoned::Stored,
-        Line::D16 | Line::D17 => Abandoned::Taken,
-        _ => Abandoned::Untouched,
-    }
-}
+const LONGEST_LIFE: u32 = 2_147_483_648;
 
 impl<M: SlotMemory> Dock<M> {
     /// A shut dock over the memory.
@@ -63,13 +36,7 @@ impl<M: SlotMemory> Dock<M> {
     {
         Dock {
             memory,
-            state: DockState {
-                opened: false,
-                bays: 0,
-                lifetime: 0,
-                started: 0,
-                records: [BayRecord::Free; 16],
-            },
+            state: SHUT,
         }
     }
 
@@ -88,10 +55,10 @@ impl<M: SlotMemory> Dock<M> {
         if !fits_ring(self.memory.length()) {
             return Err(Refusal::Length);
         }
-        if bays == 0 || bays > BAYS {
+        if !(1..=BAYS).contains(&bays) {
             return Err(Refusal::Bays);
         }
-        if lifetime == 0 || lifetime > LONGEST_LIFE {
+        if !(1..=LONGEST_LIFE).contains(&lifetime) {
             return Err(Refusal::Life);
         }
         self.memory.clear(base);
@@ -99,28 +66,9 @@ impl<M: SlotMemory> Dock<M> {
             opened: true,
             bays,
             lifetime,
-            started: 0,
-            records: [BayRecord::Free; 16],
+            ..SHUT
         };
         Ok(())
-    }
-
-    // Starts a call at the bay, which stands at its first line; answers its serial.
-    fn begin(&mut self, bay: Bay, line: Line) -> u32
-        requires { (bay < self.old.state.bays) × (self.old.state.started + 1 < 2 ^ 32) }
-        ensures serial { result ≡ self.old.state.started + 1 }
-        ensures state { self.new.state ≡ begun self.old.state bay line }
-        ensures memory { self.new.memory ≡ self.old.memory }
-    {
-        let serial = self.state.started + 1;
-        self.state.started = serial;
-        self.state.records[bay as usize] = BayRecord::UnderWay(Attempt {
-            serial,
-            line,
-            index: 0,
-            held: false,
-        });
-        serial
     }
 
     /// Starts a put of the element, which goes into the bay's tray at once. Answers the call's serial.
@@ -135,23 +83,10 @@ impl<M: SlotMemory> Dock<M> {
         ensures kept { self.new.memory ≡ self.old.memory }
         ensures stays { Stays self.old.state self.new.state }
     {
-        if !self.state.opened {
-            return Err(Refusal::Shut);
-        }
-        if trays.len() != self.state.bays as usize {
-            return Err(Refusal::Trays);
-        }
-        if bay >= self.state.bays {
-            return Err(Refusal::Bay);
-        }
-        if !is_free(self.state.records[bay as usize]) {
-            return Err(Refusal::Busy);
-        }
-        if self.state.started >= self.state.lifetime {
-            return Err(Refusal::Worn);
-        }
+        self.check_trays(trays)?;
+        let serial = self.begin(bay, Line::E5)?;
         trays[bay as usize] = element;
-        Ok(self.begin(bay, Line::E5))
+        Ok(serial)
     }
 
     /// Starts a take. Answers the call's serial.
@@ -161,19 +96,8 @@ impl<M: SlotMemory> Dock<M> {
         ensures kept { self.new.memory ≡ self.old.memory }
         ensures stays { Stays self.old.state self.new.state }
     {
-        if !self.state.opened {
-            return Err(Refusal::Shut);
-        }
-        if bay >= self.state.bays {
-            return Err(Refusal::Bay);
-        }
-        if !is_free(self.state.records[bay as usize]) {
-            return Err(Refusal::Busy);
-        }
-        if self.state.started >= self.state.lifetime {
-            return Err(Refusal::Worn);
-        }
-        Ok(self.begin(bay, Line::D5))
+        self.check_open()?;
+        self.begin(bay, Line::D5)
     }
 
     /// Runs the line at which the bay's call stands. Answers where the call stands then, or how it
@@ -185,21 +109,9 @@ impl<M: SlotMemory> Dock<M> {
         ensures fixed { M.SlotMemory.limit self.new.memory ≡ M.SlotMemory.limit self.old.memory }
         ensures stays { Stays self.old.state self.new.state }
     {
-        if !self.state.opened {
-            return Err(Refusal::Shut);
-        }
-        if trays.len() != self.state.bays as usize {
-            return Err(Refusal::Trays);
-        }
-        if bay >= self.state.bays {
-            return Err(Refusal::Bay);
-        }
-        let here = self.state.records[bay as usize];
-        let mut call = match here {
-            BayRecord::UnderWay(call) => call,
-            BayRecord::Free | BayRecord::Ended(_, _) | BayRecord::Owed(_) => {
-                return Err(Refusal::Idle);
-            }
+        self.check_trays(trays)?;
+        let BayRecord::UnderWay(mut call) = self.record(bay)? else {
+            return Err(Refusal::Idle);
         };
         let stepped = run(&mut self.memory, bay, &mut call, trays);
         self.state.records[bay as usize] = match stepped {
@@ -207,27 +119,6 @@ impl<M: SlotMemory> Dock<M> {
             Stepped::Ended(outcome) => BayRecord::Ended(call.serial, outcome),
         };
         Ok(stepped)
-    }
-
-    // The bay's call of that serial.
-    fn call_of(&self, bay: Bay, serial: u32) -> Result<Found, Refusal>
-        ensures { FoundOf self.now.state bay serial result }
-    {
-        if !self.state.opened {
-            return Err(Refusal::Shut);
-        }
-        if bay >= self.state.bays {
-            return Err(Refusal::Bay);
-        }
-        let here = self.state.records[bay as usize];
-        match here {
-            BayRecord::UnderWay(call) if call.serial == serial => Ok(Found::UnderWay(call.line)),
-            BayRecord::Ended(of, outcome) if of == serial => Ok(Found::Ended(outcome)),
-            BayRecord::Free
-            | BayRecord::UnderWay(_)
-            | BayRecord::Ended(_, _)
-            | BayRecord::Owed(_) => Err(Refusal::Serial),
-        }
     }
 
     /// Answers how the bay's call of that serial ended. The bay is free then, unless an element lies in
@@ -240,9 +131,8 @@ impl<M: SlotMemory> Dock<M> {
         ensures out { CollectedOut self.new.state result }
         ensures stays { Stays self.old.state self.new.state }
     {
-        let outcome = match self.call_of(bay, serial)? {
-            Found::UnderWay(_) => return Err(Refusal::Early),
-            Found::Ended(outcome) => outcome,
+        let Found::Ended(outcome) = self.call_of(bay, serial)? else {
+            return Err(Refusal::Early);
         };
         let (after, collected) = match outcome {
             Outcome::Full => (BayRecord::Free, Collected::Full),
@@ -267,9 +157,8 @@ impl<M: SlotMemory> Dock<M> {
         ensures out { LeftOut self.new.state result }
         ensures stays { Stays self.old.state self.new.state }
     {
-        let line = match self.call_of(bay, serial)? {
-            Found::UnderWay(line) => line,
-            Found::Ended(_) => return Err(Refusal::Late),
+        let Found::UnderWay(line) = self.call_of(bay, serial)? else {
+            return Err(Refusal::Late);
         };
         let (after, left) = match left_at(line) {
             Abandoned::Untouched => (BayRecord::Free, Left::Untouched),
@@ -300,20 +189,8 @@ impl<M: SlotMemory> Dock<M> {
         ensures lent { book.new.row.ghost_name ≡ book.old.row.ghost_name }
         ensures stays { StaysBut receipt.bay self.old.state self.new.state }
     {
-        if !self.state.opened {
-            return Err((Refusal::Shut, receipt));
-        }
-        if trays.len() != self.state.bays as usize {
-            return Err((Refusal::Trays, receipt));
-        }
-        if receipt.bay >= self.state.bays {
-            return Err((Refusal::Bay, receipt));
-        }
-        if !owes(self.state.records[receipt.bay as usize], receipt.serial) {
-            return Err((Refusal::Serial, receipt));
-        }
-        if book.entered >= book.row.len() {
-            return Err((Refusal::Book, receipt));
+        if let Err(why) = self.check_entry(&receipt, trays, book) {
+            return Err((why, receipt));
         }
         let Receipt { bay, serial: _ } = receipt;
         book.row[book.entered] = trays[bay as usize];
@@ -332,17 +209,137 @@ impl<M: SlotMemory> Dock<M> {
         ensures granted { Out self.old.state receipt → is_ok result ≡ true }
         ensures stays { StaysBut receipt.bay self.old.state self.new.state }
     {
-        if !self.state.opened {
-            return Err((Refusal::Shut, receipt));
-        }
-        if receipt.bay >= self.state.bays {
-            return Err((Refusal::Bay, receipt));
-        }
-        if !owes(self.state.records[receipt.bay as usize], receipt.serial) {
-            return Err((Refusal::Serial, receipt));
+        if let Err(why) = self.check_waiver(&receipt) {
+            return Err((why, receipt));
         }
         let Receipt { bay, serial: _ } = receipt;
         self.state.records[bay as usize] = BayRecord::Free;
         Ok(())
+    }
+}
+
+// What the calls have in common. A check answers the first of its reasons that applies.
+impl<M: SlotMemory> Dock<M> {
+    // The dock is open.
+    fn check_open(&self) -> Result<(), Refusal>
+        ensures { let d = self.now.state in Checks (shut d ∷ []) (λ _. d.opened ≡ true) result }
+    {
+        if self.state.opened {
+            Ok(())
+        } else {
+            Err(Refusal::Shut)
+        }
+    }
+
+    // It is open, and as many trays are handed over as it has bays.
+    fn check_trays(&self, handed: &[M::Element]) -> Result<(), Refusal>
+        ensures { let d = self.now.state in Checks (shut d ∷ other_trays d (length handed.now) ∷ []) (λ _. (d.opened ≡ true) × (length handed.now ≡ d.bays)) result }
+    {
+        self.check_open()?;
+        if handed.len() == self.state.bays as usize {
+            Ok(())
+        } else {
+            Err(Refusal::Trays)
+        }
+    }
+
+    // The record of the bay of that number.
+    fn record(&self, bay: Bay) -> Result<BayRecord, Refusal>
+        ensures { let d = self.now.state in Checks (no_bay d bay ∷ []) (λ found. (bay < d.bays) × (found ≡ record_of d bay)) result }
+    {
+        if bay < self.state.bays {
+            Ok(self.state.records[bay as usize])
+        } else {
+            Err(Refusal::Bay)
+        }
+    }
+
+    // Starts a call at the bay, if it is free and calls are left. Answers the call's serial.
+    fn begin(&mut self, bay: Bay, line: Line) -> Result<u32, Refusal>
+        ensures begins { let d = self.old.state in Checks (no_bay d bay ∷ busy d bay ∷ worn d ∷ []) (λ serial. Begins d bay line serial self.new.state) result }
+        ensures unmoved { OnErr result (self.new.state ≡ self.old.state) }
+        ensures memory { self.new.memory ≡ self.old.memory }
+    {
+        if self.record(bay)? != BayRecord::Free {
+            return Err(Refusal::Busy);
+        }
+        if self.state.started >= self.state.lifetime {
+            return Err(Refusal::Worn);
+        }
+        let serial = self.state.started + 1;
+        self.state.started = serial;
+        self.state.records[bay as usize] = BayRecord::UnderWay(Attempt {
+            serial,
+            line,
+            index: 0,
+            held: false,
+        });
+        Ok(serial)
+    }
+
+    // The bay's call of that serial.
+    fn call_of(&self, bay: Bay, serial: u32) -> Result<Found, Refusal>
+        ensures { FoundOf self.now.state bay serial result }
+    {
+        self.check_open()?;
+        match self.record(bay)? {
+            BayRecord::UnderWay(call) if call.serial == serial => Ok(Found::UnderWay(call.line)),
+            BayRecord::Ended(of, outcome) if of == serial => Ok(Found::Ended(outcome)),
+            _ => Err(Refusal::Serial),
+        }
+    }
+
+    // The bay's receipt of that serial is out.
+    fn check_owed(&self, bay: Bay, serial: u32) -> Result<(), Refusal>
+        ensures { let d = self.now.state in Checks (no_bay d bay ∷ no_receipt d bay serial ∷ []) (λ _. (bay < d.bays) × (record_of d bay ≡ BayRecord.Owed serial)) result }
+    {
+        match self.record(bay)? {
+            BayRecord::Owed(owed) if owed == serial => Ok(()),
+            _ => Err(Refusal::Serial),
+        }
+    }
+
+    // The receipt's element may be entered into the book.
+    fn check_entry(
+        &self,
+        receipt: &Receipt,
+        trays: &[M::Element],
+        book: &Book<'_, M::Element>,
+    ) -> Result<(), Refusal>
+        ensures { let d = self.now.state in let x = receipt.now in Checks (shut d ∷ other_trays d (length trays.now) ∷ no_bay d x.bay ∷ no_receipt d x.bay x.serial ∷ full book.now ∷ []) (λ _. Out d x × (length trays.now ≡ d.bays) × (book.now.entered < length book.now.row.now)) result }
+    {
+        self.check_trays(trays)?;
+        self.check_owed(receipt.bay, receipt.serial)?;
+        if book.entered < book.row.len() {
+            Ok(())
+        } else {
+            Err(Refusal::Book)
+        }
+    }
+
+    // The receipt may be waived.
+    fn check_waiver(&self, receipt: &Receipt) -> Result<(), Refusal>
+        ensures { let d = self.now.state in let x = receipt.now in Checks (shut d ∷ no_bay d x.bay ∷ no_receipt d x.bay x.serial ∷ []) (λ _. Out d x) result }
+    {
+        self.check_open()?;
+        self.check_owed(receipt.bay, receipt.serial)
+    }
+}
+
+// Whether a ring may have this many slots.
+fn fits_ring(length: u32) -> bool
+    ensures { result ≡ good_length length }
+{
+    length <= LONGEST && length.is_power_of_two()
+}
+
+// What becomes of a call that is given up at this line.
+fn left_at(line: Line) -> Abandoned
+    ensures { result ≡ left_at line }
+{
+    match line {
+        Line::E16 | Line::E17 => Abandoned::Stored,
+        Line::D16 | Line::D17 => Abandoned::Taken,
+        _ => Abandoned::Untouched,
     }
 }

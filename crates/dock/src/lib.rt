@@ -3,6 +3,7 @@
 #![tactic(auto)]
 
 ghost use Rattle.std.specs.Prelude.{◌≡◌, ◌≤◌, length};
+ghost use Rattle.dock_rules.specs.Calls.{most_bays};
 
 use dock_rules::{DockState, Line, Outcome};
 use slot_memory::{Bay, SlotMemory};
@@ -20,8 +21,8 @@ pub struct Dock<M: SlotMemory> {
     memory: M,
     /// What the dock notes of itself and of each bay.
     state: DockState,
-    ghost few: { state.bays ≤ 16 },
-    ghost table: { length state.records ≡ 16 },
+    ghost few: { state.bays ≤ most_bays },
+    ghost table: { length state.records ≡ most_bays },
 }
 
 /// What a caller holds for an element that lies in a tray: the bay is not free before the receipt is
@@ -34,6 +35,7 @@ pub struct Receipt {
 /// The journal in which the elements of finished takes are entered, kept by the caller.
 #[derive(Drop)]
 pub struct Book<'a, E: Copy> {
+    // Lent by the caller, with the number beside it, since no call of the dock allocates.
     pub row: &'a mut [E],
     /// How many are entered, from the front of the row. At its length or more, the book is full.
     pub entered: usize,

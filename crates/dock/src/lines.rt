@@ -70,17 +70,14 @@ pub(crate) fn run<M: SlotMemory>(
             tail if tail == call.index => Stepped::Ended(Outcome::Empty),
             _ => Stepped::At(Line::D9),
         },
-        Line::D9 => match memory.mark_slot(bay, slot) {
-            Some(element) => {
+        Line::D9 => {
+            let found = memory.mark_slot(bay, slot);
+            call.held = found.is_some();
+            if let Some(element) = found {
                 trays[bay as usize] = element;
-                call.held = true;
-                Stepped::At(Line::D10)
             }
-            None => {
-                call.held = false;
-                Stepped::At(Line::D10)
-            }
-        },
+            Stepped::At(Line::D10)
+        }
         Line::D10 => match memory.read(Index::Head) {
             head if head != call.index => Stepped::At(Line::D5),
             _ if call.held => Stepped::At(Line::D15),

@@ -1,5 +1,5 @@
 -- A step of one bay that changes nothing of what the bays share: the call goes to another line. Assumes nothing.
-use Rattle.std.proofs.Common.{◌≡◌, ℕ, suc, ◌+◌, ◌<◌, ◌≤◌, Bool, true, false, cond, ◌&&◌, eqb, ltb, List, [], ◌∷◌, length, Some, Option, sym, refl, ap, ◌∙◌, subst, arith}
+use Rattle.std.proofs.Common.{◌≡◌, ℕ, suc, ◌+◌, ◌<◌, ◌≤◌, Bool, false, cond, ◌&&◌, eqb, ltb, List, [], ◌∷◌, length, Some, Option, sym, refl, ap, ◌∙◌, subst, arith}
 use Rattle.std.specs.List.{slice_get}
 use Rattle.std.proofs.lemmas.Bool.{cond-false, and_right}
 use Rattle.slot_memory.specs.declared.Cell.{Cell}
@@ -56,8 +56,7 @@ module _ {E : Type 0} {K : ℕ} {st : Start} {h : List (Moment E)} {s : State E}
       (subst (λ n. cond (eqb a.serial y) (early_at g) 0 ≤ cond (eqb a.serial y) (cond (ltb n 16) 1 0) 0) (sym (number_is a.line)) (both (eqb a.serial y))))
     where
       both : (t : Bool) → cond t (early_at g) 0 ≤ cond t (early_at (stage a.line)) 0
-      both true = le
-      both false = omega arith
+      both t = grind arith
 
   -- nor does it take more room
   pub roomier_at : (g : Stage) (x : ℕ) (held : Bool) → early_at g ≤ early_at (stage a.line) → early (UnderWay (attempt_at g x held)) ≤ early (record_of s.dock b)

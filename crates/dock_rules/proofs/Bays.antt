@@ -1,6 +1,9 @@
 -- Marks, trays and records of one bay and of the others, after one of them is changed. Assumes nothing.
-use Rattle.std.proofs.Common.{◌≡◌, ℕ, zero, suc, ◌<◌, true, cond, eqb, List, [], ◌∷◌, map, length, get_or, set, is_some, Some, None, Option, sym, refl, ap, ◌∙◌, le_of_suc-le-suc, arith}
+use Rattle.std.proofs.Common.{◌≡◌, ℕ, ◌<◌, true, cond, eqb, List, map, length, get_or, set, is_some, Some, None, Option, sym, refl, ap, ◌∙◌, arith}
 use Rattle.std.specs.List.{slice_get}
+use Rattle.std.proofs.Math.ListN.{get_or-map}
+use Rattle.std.proofs.lemmas.Grind.{common_steps}
+use Rattle.std.proofs.lemmas.Option.{gets}
 use Rattle.std.specs.Option.{option_map}
 use Rattle.std.proofs.lemmas.List.{get_or-set_same, get_or-set_other, length-map}
 use Rattle.std.proofs.lemmas.Bool.{cond-true, cond-false, eq-eqb, ne_eqb}
@@ -21,29 +24,19 @@ use Rattle.dock_rules.proofs.Knows.{spared}
 module _ {X : Type 0} where
   -- a store in one place leaves the others
   pub nth_set_other : (xs : List X) (b c : ℕ) (x : X) → (c ≡ b → ⊥) → slice_get (set xs b x) c ≡ slice_get xs c
-  nth_set_other [] b c x n = refl
-  nth_set_other (y ∷ xs) zero zero x n = absurd (n refl)
-  nth_set_other (y ∷ xs) zero (suc c) x n = refl
-  nth_set_other (y ∷ xs) (suc b) zero x n = refl
-  nth_set_other (y ∷ xs) (suc b) (suc c) x n = nth_set_other xs b c x (λ e. n (ap suc e))
+  nth_set_other xs b c x n = grind (arith, common_steps, gets)
 
   -- and is read back at its own
   pub nth_set_same : (xs : List X) (b : ℕ) (x : X) → b < length xs → slice_get (set xs b x) b ≡ Some x
-  nth_set_same [] b x h = absurd (omega arith)
-  nth_set_same (y ∷ xs) zero x h = refl
-  nth_set_same (y ∷ xs) (suc b) x h = nth_set_same xs b x (le_of_suc-le-suc h)
+  nth_set_same xs b x h = grind (arith, common_steps, gets)
 
   -- a place within a list holds something
   pub nth_some : (xs : List X) (b : ℕ) → b < length xs → is_some (slice_get xs b) ≡ true
-  nth_some [] b h = absurd (omega arith)
-  nth_some (y ∷ xs) zero h = refl
-  nth_some (y ∷ xs) (suc b) h = nth_some xs b (le_of_suc-le-suc h)
+  nth_some xs b h = grind (arith, common_steps, gets)
 
 -- a kill over all marks is one over each, since a mark that is not there stays so
 get_or_unless : (c : Cell) (ks : List (Option Cell)) (b : ℕ) → get_or (map (unless_on c) ks) b None ≡ unless_on c (get_or ks b None)
-get_or_unless c [] b = refl
-get_or_unless c (k ∷ ks) zero = refl
-get_or_unless c (k ∷ ks) (suc b) = get_or_unless c ks b
+get_or_unless c ks b = get_or-map (unless_on c) ks b None
 
 module _ {E : Type 0} (m : Meaning E) where
   -- a bay's mark changes no other bay's
@@ -86,11 +79,7 @@ module _ {E : Type 0} (b now : ℕ) (count : Side → ℕ) (run : ℕ → Option
 
   -- an event about bay b leaves the call of every other bay
   pub runs_other : (ev : Event E) (c : ℕ) → About ev → (c ≡ b → ⊥) → running_after ev c now count (run c) ≡ run c
-  runs_other (Starts e q s) c is n = away c e _ _ is n
-  runs_other (Goes e l) c is n = away c e _ _ is n
-  runs_other (Stops e o) c is n = away c e _ _ is n
-  runs_other (Gives e a) c is n = away c e _ _ is n
-  runs_other Quiet c is n = refl
+  runs_other ev c is n = grind arith
 
   -- the call that has begun runs in bay b
   pub starts_own : (q : Request E) (s : ℕ) → running_after (Starts b q s) b now count (run b) ≡ Some (begins q s now)

@@ -67,8 +67,7 @@ module _ {E : Type 0} (L base now : ℕ) where
 
   -- the plain queue gives its first to a take
   plain_take_lem : (q : List E) → 0 < length q → (plain L q TakeOf).0 ≡ (Taken, slice_get q 0)
-  plain_take_lem [] h = absurd (omega arith)
-  plain_take_lem (x ∷ q) h = refl
+  plain_take_lem q h = grind arith
 
   -- a tray that holds something is not empty
   some_is_not_none : (tr : Option E) → is_some tr ≡ true → tr ≡ None → ⊥
@@ -136,8 +135,7 @@ module _ {E : Type 0} (L base now : ℕ) where
 
   -- a queue that stays keeps its first
   same_front : (v u : View E) (d : Side) (tr : Option E) → queue_of L base u ≡ queue_of L base v → First L base v d tr → First L base u d tr
-  same_front v u Putting tr same k = tt
-  same_front v u Taking tr same k = ap (λ q. slice_get q 0) same ∙ k
+  same_front v u d tr same k = grind arith
 
   -- a call that is placed already stays so where the places and its side's count do not change
   counted_rests : (v u : View E) (d : Side) (r : Running E) (tr : Option E) → count u d ≡ count v d → u.ps ≡ v.ps → Counted L base v d r tr → Counted L base u d r tr
@@ -207,9 +205,7 @@ module _ {E : Type 0} (L base now : ℕ) where
       ])
     where
       sames : (d : Side) → count (turning v w) d ≡ count v d
-      sames Putting = refl
-      sames Taking = refl
+      sames d = grind arith
 
       waits : (d : Side) → wait (turning v w) d ≡ wait v d
-      waits Putting = refl
-      waits Taking = refl
+      waits d = grind arith

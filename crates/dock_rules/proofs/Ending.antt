@@ -6,7 +6,7 @@ use Rattle.slot_memory.specs.Meaning.{Meaning, index}
 use Rattle.dock_rules.specs.declared.Attempt.{Attempt}
 use Rattle.dock_rules.specs.declared.BayRecord.TheVariants.{UnderWay, Ended}
 use Rattle.dock_rules.specs.declared.Outcome.{Outcome}
-use Rattle.dock_rules.specs.declared.Outcome.TheVariants.{Full, Stored, Empty, Taken}
+use Rattle.dock_rules.specs.declared.Outcome.TheVariants.{Full, Empty}
 use Rattle.dock_rules.specs.Words.{Side, Putting, Taking, side, number}
 use Rattle.dock_rules.specs.Calls.{Step, End, record_of}
 use Rattle.dock_rules.specs.History.{Moment, TakeOf, Running, Placed, place, ends, element_of, Stops, when, is_turned, same_side, turned_by, ended_by, alterations, running}
@@ -75,8 +75,7 @@ module _ {E : Type 0} {K : ℕ} {st : Start} {h : List (Moment E)} {s : State E}
 
   -- a call carried out is not turned away
   not_turned : (o : Side) → turned_by (Stops b (carried_out o)) (running st.base h) ≡ []
-  not_turned Putting = ap (when (is_turned Stored)) runs
-  not_turned Taking = ap (when (is_turned Taken)) runs
+  not_turned o = grind arith
 
   -- line 16 finds that the index has left the call's count
   pub ends-late : (mem : Meaning E) → Unshared K st h s b mem → Counted st.length st.base v d r tr → Inv K st (moment_of (Step b) (End (carried_out d)) (acted K st h s b (Ended a.serial (carried_out d)) mem s.trays) ∷ h) (acted K st h s b (Ended a.serial (carried_out d)) mem s.trays)
@@ -92,8 +91,7 @@ module _ {E : Type 0} {K : ℕ} {st : Start} {h : List (Moment E)} {s : State E}
 
   -- no call waits on a side whose index has just moved
   no_wait : (o : Side) (w : Running E) → wait (moving st.length st.base now o v w) o ≡ []
-  no_wait Putting w = refl
-  no_wait Taking w = refl
+  no_wait o w = grind arith
 
   -- the new place is no later than this moment either
   past_moving : (o : Side) (w : Running E) → Each (λ p. p.moment ≤ now) (moving st.length st.base now o v w).ps
@@ -143,8 +141,7 @@ module _ {E : Type 0} {K : ℕ} {st : Start} {h : List (Moment E)} {s : State E}
 
   -- a call turned away ends with no element
   no_element : (o : Side) → element_of (turned_away o) tr ≡ None
-  no_element Putting = refl
-  no_element Taking = refl
+  no_element o = grind arith
 
   -- line 6 finds the ring full, or empty
   pub ends_turned : stage a.line ≡ S6 → pos st.length st.base r ≤ count v d → pos st.length st.base r ≡ lim st.length st.base v d → Inv K st (moment_of (Step b) (End (turned_away d)) (acted K st h s b (Ended a.serial (turned_away d)) s.memory s.trays) ∷ h) (acted K st h s b (Ended a.serial (turned_away d)) s.memory s.trays)

@@ -6,7 +6,6 @@ use Rattle.slot_memory.proofs.Ranges.{slot_known, index-known}
 use Rattle.slot_memory.specs.declared.Cell.{Cell}
 use Rattle.slot_memory.specs.declared.Cell.TheVariants.{Slot, At}
 use Rattle.slot_memory.specs.declared.Index.{Index}
-use Rattle.slot_memory.specs.declared.Index.TheVariants.{Tail, Head}
 use Rattle.slot_memory.specs.declared.Stored.TheVariants.{Accepted, Refused}
 use Rattle.slot_memory.specs.Meaning.{Meaning, index, known, live, mark}
 use Rattle.slot_memory.specs.Rules.{Write, InSlot, InIndex, Operation, Mark, Store, Reply, Verdict, Free, target, reading, marked, written, touched, May, MayStore}
@@ -26,13 +25,11 @@ use Rattle.dock_rules.proofs.Rank.{rank_of, waits, waits_rise, waits_fall, poten
 
 -- an index holds what was written in it
 index-written : {E : Type 0} (m : Meaning E) (i : Index) (v sp : ℕ) → index (written m (InIndex i v) sp) i ≡ v
-index-written m Tail v sp = refl
-index-written m Head v sp = refl
+index-written m i v sp = grind arith
 
 -- what the spare loses by a live store refused pays for a rise of up to 6
 spare_pays : (on : Bool) (sp spare rise : ℕ) → rise ≤ 6 → sp + cond on 1 0 ≤ spare → 6 * sp + rise ≤ 6 * spare + cond on 0 rise
-spare_pays true sp spare rise l less = omega arith
-spare_pays false sp spare rise l less = omega arith
+spare_pays on sp spare rise l less = grind arith
 
 -- a call that stays before its slot store, or past it, makes none
 none_made : (g next : Stage) → early_at next ≡ early_at g → (eqb (number_at g) 15 && eqb (number_at next) 16) ≡ false

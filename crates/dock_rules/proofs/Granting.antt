@@ -1,73 +1,40 @@
 -- Every call of every run, granted or refused, keeps the invariant. Assumes nothing.
-use Rattle.std.proofs.Common.{◌≡◌, ℕ, ◌<◌, Bool, true, false, cond, not, eqb, leb, List, [], ◌∷◌, length, set, IfSome, IfNone, Some, None, Option, sym, refl, ap, ◌∙◌, subst, inl, inr, arith, length-set}
+use Rattle.std.proofs.Common.{◌≡◌, ℕ, ◌<◌, Bool, true, false, cond, not, eqb, leb, List, ◌∷◌, length, set, IfSome, IfNone, Some, None, Option, sym, refl, ap, ◌∙◌, subst, inl, inr, arith, length-set}
 use Rattle.std.specs.List.{slice_get}
 use Rattle.std.specs.Option as options
-use Rattle.std.proofs.lemmas.Bool.{true≢false, false≢true, eqb-true, eq-eqb, ne_eqb, leb-false, not-false, cond-false}
+use Rattle.std.proofs.lemmas.Bool.{true≢false, eqb-true, eq-eqb, ne_eqb, leb-false, not-false, cond-false}
 use Rattle.slot_memory.specs.Rules.{Free, touched, May}
 use Rattle.dock_rules.specs.declared.BayRecord.{BayRecord}
 use Rattle.dock_rules.specs.declared.BayRecord.TheVariants.{Free as Idle, UnderWay, Ended, Owed}
 use Rattle.dock_rules.specs.declared.Outcome.{Outcome}
-use Rattle.dock_rules.specs.declared.Outcome.TheVariants.{Full, Stored, Empty, Taken}
 use Rattle.dock_rules.specs.declared.Refusal.{Refusal}
-use Rattle.dock_rules.specs.Calls.{World, Book, Call, Open, Put, Take, Step, Collect, Abandon, Enter, Waive, Answer, Refused, Settled, is_free, attempt, outcome, serial_of, owed_of, is_it, first, reasons, refusal, record_of, after_end, step, stepped, collect, abandon, granted, answered, does, attempted, next_operation, touches, MayCall}
-use Rattle.dock_rules.specs.History.{Moment, PutOf, TakeOf, Quiet, event_of}
+use Rattle.dock_rules.specs.Calls.{World, Book, Call, Open, Put, Take, Step, Collect, Abandon, Enter, Waive, Answer, Refused, Settled, is_free, attempt, outcome, serial_of, owed_of, is_it, reasons, refusal, record_of, after_end, step, stepped, collect, abandon, granted, answered, does, attempted, next_operation, touches, MayCall}
+use Rattle.dock_rules.specs.History.{Moment, PutOf, TakeOf}
 use Rattle.dock_rules.specs.Runs.{Start, State, handing, Handed, carried, moment_of}
+use Rattle.dock_rules.specs.Law.{Each}
 use Rattle.dock_rules.proofs.Invariant.{Inv}
+use Rattle.dock_rules.proofs.Reasons.{no_reason, refused_quiet}
 use Rattle.dock_rules.proofs.Bays.{nth_set_same, nth_set_other, nth_some}
 use Rattle.dock_rules.proofs.Stepping.{steps}
 use Rattle.dock_rules.proofs.Others.{runs_call, quiet, settles, gives_up}
 use Rattle.dock_rules.proofs.Starting.{starts}
 
--- no reason applies
-abbrev pub NoReason : List (Bool × Refusal) → Type 0
-NoReason [] = Unit {0}
-NoReason (t ∷ ts) = (t.0 ≡ false) × NoReason ts
-
--- where no refusal is first, none applies
-pub no_reason : (ts : List (Bool × Refusal)) → first ts ≡ None → NoReason ts
-no_reason [] e = tt
-no_reason (t ∷ ts) e = go t.0 refl (no_reason ts) e
-  where
-    go : (x : Bool) → t.0 ≡ x → (first ts ≡ None → NoReason ts) → cond x (Some t.1) (first ts) ≡ None → (t.0 ≡ false) × NoReason ts
-    go true same rest e = absurd (let z : ◌≡◌ {A = ℕ} 0 1 = cc in omega arith)
-    go false same rest e = (same, rest e)
-
 -- a free bay has no call under way
 free-idle : (r : BayRecord) → is_free r ≡ true → attempt r ≡ None
-free-idle Idle e = refl
-free-idle (UnderWay a) e = absurd (false≢true e)
-free-idle (Ended s o) e = refl
-free-idle (Owed s) e = refl
+free-idle r e = grind arith
 
 -- nor has one whose ended call has been collected
 end_idle : (x : ℕ) (o : Outcome) → attempt (after_end x o) ≡ None
-end_idle x Full = refl
-end_idle x Stored = refl
-end_idle x Empty = refl
-end_idle x Taken = refl
+end_idle x o = grind arith
 
 -- nor has one that is owed an entry
 owed-idle : (x : ℕ) (r : BayRecord) → is_it x (owed_of r) ≡ true → attempt r ≡ None
-owed-idle x Idle e = refl
-owed-idle x (UnderWay a) e = absurd (false≢true e)
-owed-idle x (Ended s o) e = refl
-owed-idle x (Owed s) e = refl
+owed-idle x r e = grind arith
 
 module _ {E : Type 0} {K : ℕ} {st : Start} {h : List (Moment E)} {s : State E} (i : Inv K st h s) where
   -- the invariant after a call that answers and leaves so
   abbrev After : Call E → List E → Answer × World E → Type 0
   After c t x = Inv K st (moment_of c x.0 (carried s t x.1) ∷ h) (carried s t x.1)
-
-  -- a refused call is no event
-  refused_quiet : (c : Call E) (r : Refusal) → event_of c (Refused r) ≡ Quiet
-  refused_quiet (Open n life base) r = refl
-  refused_quiet (Put b e) r = refl
-  refused_quiet (Take b) r = refl
-  refused_quiet (Step b) r = refl
-  refused_quiet (Collect b x) r = refl
-  refused_quiet (Abandon b x) r = refl
-  refused_quiet (Enter b x) r = refl
-  refused_quiet (Waive b x) r = refl
 
   -- the run's own trays are as many as the bays
   own_number : eqb (length s.trays) s.dock.bays ≡ true
@@ -84,8 +51,7 @@ module _ {E : Type 0} {K : ℕ} {st : Start} {h : List (Moment E)} {s : State E}
 
   -- trays of that number are the run's own
   handed_own : (t : List E) → Handed s t → not (eqb (length t) s.dock.bays) ≡ false → t ≡ s.trays
-  handed_own t (inl e) k = e
-  handed_own t (inr n) k = absurd (n (eqb-true _ _ (not-false _ k)))
+  handed_own t hd k = grind arith
 
   -- a call that is handed the run's trays
   with_own : (c : Call E) (an : Answer) (w : World E) → Inv K st (moment_of c an (record { dock = w.dock; memory = w.memory; trays = w.trays }) ∷ h) (record { dock = w.dock; memory = w.memory; trays = w.trays }) → After c s.trays (an, w)
@@ -150,7 +116,7 @@ module _ {E : Type 0} {K : ℕ} {st : Start} {h : List (Moment E)} {s : State E}
   put_tray b e t is lt = nth_set_same t b e (subst (λ x. b < length x) (sym is) (long b lt))
 
   -- a call that nothing turns down
-  grants : (c : Call E) (t : List E) (k : Book E) (f : Free) → Handed s t → NoReason (reasons (handing s t k) c) → IfSome (touches (handing s t k) c) (λ o. May K s.memory o f) → After c t (granted (handing s t k) c f)
+  grants : (c : Call E) (t : List E) (k : Book E) (f : Free) → Handed s t → Each (λ x. x.0 ≡ false) (reasons (handing s t k) c) → IfSome (touches (handing s t k) c) (λ o. May K s.memory o f) → After c t (granted (handing s t k) c f)
   grants (Open n life base) t k f hd ok may = absurd (true≢false (sym i.inner.static.opened ∙ ok.0))
   grants (Put b e) t k f hd ok may =
       let lt = inside_of b ok.1.1.0 in

@@ -4,13 +4,12 @@
 --           that wait and the calls that are placed
 --   pos     the count at which a call read its index
 --   lim     the count at which a side is full or empty
-use Rattle.std.proofs.Common.{◌≡◌, ℕ, ◌+◌, ◌%◌, ◌<◌, ◌≤◌, Bool, true, false, ◌⊎◌, List, [], ◌∷◌, length, get_or, is_some, Some, None, Option, sym, refl, ap, ◌∙◌, subst, arith}
+use Rattle.std.proofs.Common.{◌≡◌, ℕ, ◌+◌, ◌%◌, ◌<◌, ◌≤◌, Bool, true, false, ◌⊎◌, List, [], ◌∷◌, length, get_or, is_some, Some, None, Option, sym, refl, ◌∙◌, subst, arith}
 use Rattle.std.specs.List.{slice_get}
-use Rattle.std.proofs.lemmas.Bool.{false≢true, eqb-true}
+use Rattle.std.proofs.lemmas.Bool.{false≢true}
 use Rattle.std.proofs.lemmas.Bool.Decides.{nat_tests}
 use Rattle.slot_memory.specs.declared.Cell.{Cell}
 use Rattle.slot_memory.specs.declared.Cell.TheVariants.{Slot, At}
-use Rattle.slot_memory.specs.declared.Index.TheVariants.{Tail, Head}
 use Rattle.slot_memory.specs.Meaning.{same_cell, is_on, unless_on}
 use Rattle.dock_rules.specs.declared.Outcome.{Outcome}
 use Rattle.dock_rules.specs.declared.Outcome.TheVariants.{Stored, Taken}
@@ -45,13 +44,7 @@ on_index d mk = is_on (At (own d)) mk
 
 -- the test of cells tells
 pub same_cell_lem : (c d : Cell) → same_cell c d ≡ true → c ≡ d
-same_cell_lem (Slot i) (Slot j) e = ap Slot (eqb-true i j e)
-same_cell_lem (Slot i) (At j) e = absurd (false≢true e)
-same_cell_lem (At i) (Slot j) e = absurd (false≢true e)
-same_cell_lem (At Tail) (At Tail) e = refl
-same_cell_lem (At Tail) (At Head) e = absurd (false≢true e)
-same_cell_lem (At Head) (At Tail) e = absurd (false≢true e)
-same_cell_lem (At Head) (At Head) e = refl
+same_cell_lem c d e = grind arith
 
 -- a mark that is spared was there before, and its cell was not stored in
 pub was_on : (kill : Option Cell) (c : Cell) (mk : Option Cell) → is_on c (spared kill mk) ≡ true → (is_on c mk ≡ true) × (killed kill c ≡ false)

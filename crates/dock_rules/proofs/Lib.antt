@@ -26,6 +26,7 @@ pub mod Steps
 pub mod Stepping
 pub mod Others
 pub mod Starting
+pub mod Reasons
 pub mod Granting
 pub mod Rank
 pub mod Falls

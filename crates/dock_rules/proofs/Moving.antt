@@ -17,22 +17,21 @@ use Rattle.dock_rules.proofs.Shared.{Shared, tail_moves, head_moves}
 use Rattle.dock_rules.proofs.Knows.{View, count, wait, queue_of, Change}
 use Rattle.dock_rules.proofs.Placing.{plain_put}
 use Rattle.dock_rules.proofs.Changes.{Sharing, moving, tail_change, head_change}
-use Rattle.dock_rules.proofs.Invariant.{early, early_by, side_of, Knows, view_of, hits, words, weight, extent, Inv}
+use Rattle.dock_rules.proofs.Invariant.{early, early_by, side_of, Knows, view_of, words, weight, extent, Inv}
 use Rattle.dock_rules.proofs.Bays.{About, written-mark, written-marks}
 use Rattle.dock_rules.proofs.Moments.{same_index_lem, other_index, tail_view, head_view}
 use Rattle.dock_rules.proofs.Finish.{Answered, Places, one_more}
 use Rattle.dock_rules.proofs.Moves.{acted, Move}
-use Rattle.dock_rules.proofs.Weights.{placed_words, waits_weigh}
+use Rattle.dock_rules.proofs.Weights.{waits_weigh}
 
 -- a request of the putting side is a put
 pub asked_put : {E : Type 0} (q : Request E) → side_of q ≡ Putting → (e : E) × (q ≡ PutOf e)
 asked_put (PutOf e) k = (e, refl)
-asked_put TakeOf k = absurd (let z : ◌≡◌ {A = ℕ} 0 1 = cc in omega arith)
+asked_put TakeOf k = cc
 
 -- a request of the taking side is a take
 pub asked_take : {E : Type 0} (q : Request E) → side_of q ≡ Taking → q ≡ TakeOf
-asked_take (PutOf e) k = absurd (let z : ◌≡◌ {A = ℕ} 0 1 = cc in omega arith)
-asked_take TakeOf k = refl
+asked_take q k = grind arith
 
 -- the index after a number that fits 32 bits is another number
 next_differs : (x : ℕ) → x < 2 ^ 32 → wrap (x + 1) ≡ x → ⊥
@@ -90,18 +89,15 @@ module _ {E : Type 0} {K : ℕ} {st : Start} {h : List (Moment E)} {s : State E}
 
   -- the call waited once and is placed once
   moving_words : (d : Side) (w : Running E) → wait v d ≡ w ∷ [] → (x : ℕ) → words (moving st.length st.base now d v w) x ≡ words v x
-  moving_words Putting w one x = omega (arith, placed_words w now v.ps x, ap (hits x) one)
-  moving_words Taking w one x = omega (arith, placed_words w now v.ps x, ap (hits x) one)
+  moving_words d w one x = grind arith
 
   -- and the count rises as the wait ends
   moving_extent : (d : Side) (w : Running E) → wait v d ≡ w ∷ [] → extent (moving st.length st.base now d v w) ≡ extent v
-  moving_extent Putting w one = omega (arith, ap length one)
-  moving_extent Taking w one = omega (arith, ap length one)
+  moving_extent d w one = grind arith
 
   -- on either side the call that waited is the last that is placed
   pub moving_ps : (d : Side) (w : Running E) → (moving st.length st.base now d v w).ps ≡ place now w ∷ v.ps
-  moving_ps Putting w = refl
-  moving_ps Taking w = refl
+  moving_ps d w = grind arith
 
   -- the memory with its index stored in
   abbrev pub bumped : Side → ℕ → ℕ → Meaning E
@@ -116,18 +112,15 @@ module _ {E : Type 0} {K : ℕ} {st : Start} {h : List (Moment E)} {s : State E}
 
   -- no slot changes
   bumped_slots : (d : Side) (x spare : ℕ) → (bumped d x spare).slots ≡ s.memory.slots
-  bumped_slots Putting x spare = refl
-  bumped_slots Taking x spare = refl
+  bumped_slots d x spare = grind arith
 
   -- the view has the slots that it had
   moving_slots : (d : Side) (w : Running E) → (moving st.length st.base now d v w).slots ≡ v.slots
-  moving_slots Putting w = refl
-  moving_slots Taking w = refl
+  moving_slots d w = grind arith
 
   -- the spare is as the memory chose
   bumped_spare : (d : Side) (x spare : ℕ) → (bumped d x spare).spare ≡ spare
-  bumped_spare Putting x spare = refl
-  bumped_spare Taking x spare = refl
+  bumped_spare d x spare = grind arith
 
   -- an index fits 32 bits, since it is wrapped
   small : (d : Side) → index s.memory (own d) < 2 ^ 32

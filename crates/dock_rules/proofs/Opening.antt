@@ -1,6 +1,7 @@
 -- A dock just opened. Assumes nothing.
-use Rattle.std.proofs.Common.{◌≡◌, ℕ, zero, suc, ◌+◌, ◌^◌, ◌<◌, ◌≤◌, true, false, eqb, ltb, List, [], length, get_or, replicate, IfNone, Some, None, Option, refl, ap, subst, arith}
+use Rattle.std.proofs.Common.{◌≡◌, ℕ, ◌+◌, ◌^◌, ◌<◌, ◌≤◌, true, false, eqb, ltb, List, [], length, get_or, replicate, IfNone, Some, None, Option, refl, ap, subst, arith}
 use lib.ListN.{length-replicate}
+use Rattle.std.proofs.lemmas.List.{get_or-replicate, get_or_past}
 use Rattle.std.proofs.lemmas.Bool.{not-false, and_parts, or_parts, ltb-true, ltb-false, leb-true, eqb-true}
 use Rattle.slot_memory.specs.Meaning.{Meaning}
 use Rattle.slot_memory.specs.Rules.{Free, cleared}
@@ -13,14 +14,12 @@ use Rattle.dock_rules.specs.Runs.{Start, State}
 use Rattle.dock_rules.proofs.Ring.{ring_empty}
 use Rattle.dock_rules.proofs.Sums.{sum_to, sum-most}
 use Rattle.dock_rules.proofs.Invariant.{early, early_by, view_of, Inv}
-use Rattle.dock_rules.proofs.Granting.{no_reason}
+use Rattle.dock_rules.proofs.Reasons.{no_reason}
 use Rattle.dock_rules.proofs.Others.{knows_idle}
 
 -- a list of one value has it everywhere
 all_same : {X : Type 0} (n i : ℕ) (x : X) → get_or (replicate n x) i x ≡ x
-all_same zero i x = refl
-all_same (suc n) zero x = refl
-all_same (suc n) (suc i) x = all_same n i x
+all_same n i x = grind (arith, get_or-replicate, get_or_past, length-replicate)
 
 module _ {E : Type 0} (K n life base : ℕ) (m : Meaning E) (trays : List E) (spare : ℕ) (fits : base < 2 ^ 32) (long : length trays ≡ n) (low : spare ≤ K) (good : good_length (length m.slots) ≡ true) (bays : bad_bays n ≡ false) (lasts : bad_life life ≡ false) where
   abbrev start : Start
@@ -89,7 +88,7 @@ pub opening_keeps : {E : Type 0} (K : ℕ) (w v : World E) (n life base : ℕ) (
 opening_keeps {E} K w v n life base f fits long may e = go (refusal w (Open n life base)) refl may e
   where
     go : (o : Option Refusal) → refusal w (Open n life base) ≡ o → IfNone o (f.spare ≤ K) → answered w (Open n life base) f o ≡ (Opened, v) → Inv K (record { bays = n; length = length w.memory.slots; base = base }) [] (record { dock = v.dock; memory = v.memory; trays = v.trays })
-    go (Some r) is may e = absurd (let z : ◌≡◌ {A = ℕ} 0 1 = cc (ap (λ x. x.0) e) in omega arith)
+    go (Some r) is may e = cc (ap (λ x. x.0) e)
     go None is may e =
         let ok = no_reason (reasons w (Open n life base)) is in
         subst (λ x. Inv K (record { bays = n; length = length w.memory.slots; base = base }) [] (record { dock = x.1.dock; memory = x.1.memory; trays = x.1.trays })) e

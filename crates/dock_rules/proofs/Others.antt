@@ -6,7 +6,7 @@ use Rattle.dock_rules.specs.declared.Abandoned.{Abandoned}
 use Rattle.dock_rules.specs.declared.Abandoned.TheVariants.{Untouched, Stored as StoredAway, Taken as TakenAway}
 use Rattle.dock_rules.specs.declared.Attempt.{Attempt}
 use Rattle.dock_rules.specs.declared.BayRecord.{BayRecord}
-use Rattle.dock_rules.specs.declared.BayRecord.TheVariants.{Free as Idle, UnderWay, Ended, Owed}
+use Rattle.dock_rules.specs.declared.BayRecord.TheVariants.{UnderWay}
 use Rattle.dock_rules.specs.Words.{Putting, Taking, side, is_taking, number}
 use Rattle.dock_rules.specs.Calls.{Call, Answer, Abandon, Left, attempt, record_of, left_at, after_left}
 use Rattle.dock_rules.specs.History.{Moment, Running, Quiet, event_of, running_after, stored_by, turned_by, ended_by, untouched_by, is_untouched, when, alterations, running}
@@ -26,11 +26,7 @@ use Rattle.dock_rules.proofs.Acting.{stood}
 module _ {E : Type 0} (L base : ℕ) where
   -- a bay with no call under way runs none
   pub idle_runs : (v : View E) (now : ℕ) (run : Option (Running E)) (rec : BayRecord) (mk : _) (tr : Option E) → Knows L base v now run rec mk tr → attempt rec ≡ None → run ≡ None
-  idle_runs v now None rec mk tr k e = refl
-  idle_runs v now (Some r) Idle mk tr k e = absurd k
-  idle_runs v now (Some r) (UnderWay a) mk tr k e = absurd (let z : ◌≡◌ {A = ℕ} 0 1 = cc in omega arith)
-  idle_runs v now (Some r) (Ended s o) mk tr k e = absurd k
-  idle_runs v now (Some r) (Owed s) mk tr k e = absurd k
+  idle_runs v now run rec mk tr k e = grind arith
 
   -- a bay with one runs it
   pub busy_runs : (v : View E) (now : ℕ) (run : Option (Running E)) (a : Attempt) (mk : _) (tr : Option E) → Knows L base v now run (UnderWay a) mk tr → (r : Running E) × (run ≡ Some r)
@@ -39,24 +35,15 @@ module _ {E : Type 0} (L base : ℕ) where
 
   -- nothing is to know of a bay with no call under way
   pub knows_idle : (v : View E) (now : ℕ) (rec : BayRecord) (mk : _) (tr : Option E) → attempt rec ≡ None → Knows L base v now None rec mk tr
-  knows_idle v now Idle mk tr e = tt
-  knows_idle v now (UnderWay a) mk tr e = absurd (let z : ◌≡◌ {A = ℕ} 0 1 = cc in omega arith)
-  knows_idle v now (Ended s o) mk tr e = tt
-  knows_idle v now (Owed s) mk tr e = tt
+  knows_idle v now rec mk tr e = grind arith
 
 -- and it is not early
 pub idle-early : (rec : BayRecord) → attempt rec ≡ None → early rec ≡ 0
-idle-early Idle e = refl
-idle-early (UnderWay a) e = absurd (let z : ◌≡◌ {A = ℕ} 0 1 = cc in omega arith)
-idle-early (Ended s o) e = refl
-idle-early (Owed s) e = refl
+idle-early rec e = grind arith
 
 -- nor early of any serial
 pub idle_early_by : (x : ℕ) (rec : BayRecord) → attempt rec ≡ None → early_by x rec ≡ 0
-idle_early_by x Idle e = refl
-idle_early_by x (UnderWay a) e = absurd (let z : ◌≡◌ {A = ℕ} 0 1 = cc in omega arith)
-idle_early_by x (Ended s o) e = refl
-idle_early_by x (Owed s) e = refl
+idle_early_by x rec e = grind arith
 
 module _ {E : Type 0} {K : ℕ} {st : Start} {h : List (Moment E)} {s : State E} (i : Inv K st h s) where
   abbrev v : View E
@@ -118,9 +105,7 @@ module _ {E : Type 0} {K : ℕ} {st : Start} {h : List (Moment E)} {s : State E}
 
   -- a bay whose call was given up has none under way
   left_idle : (x : ℕ) (a : Abandoned) → attempt (after_left x a) ≡ None
-  left_idle x Untouched = refl
-  left_idle x StoredAway = refl
-  left_idle x TakenAway = refl
+  left_idle x a = grind arith
 
   -- the call under way is given up
   pub gives_up : (b x : ℕ) (a : Attempt) → b < st.bays → record_of s.dock b ≡ UnderWay a → a.serial ≡ x → Inv K st (moment_of (Abandon b x) (Left (left_at a.line)) (acted K st h s b (after_left x (left_at a.line)) s.memory s.trays) ∷ h) (acted K st h s b (after_left x (left_at a.line)) s.memory s.trays)

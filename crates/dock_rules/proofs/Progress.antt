@@ -1,6 +1,6 @@
 -- Progress: each call of a run ends a call or lowers the potential by its step, so no long stretch goes
 -- without an end. Assumes nothing.
-use Rattle.std.proofs.Common.{◌≡◌, ℕ, ◌+◌, ◌<◌, Bool, true, false, cond, not, eqb, leb, List, [], ◌∷◌, ◌++◌, set, IfSome, Some, None, Option, refl, ap, subst, inl, inr, arith}
+use Rattle.std.proofs.Common.{◌≡◌, ℕ, ◌+◌, ◌<◌, Bool, true, false, not, eqb, leb, List, [], ◌∷◌, ◌++◌, set, IfSome, Some, None, Option, refl, ap, subst, inl, inr, arith}
 use Rattle.std.specs.List.{slice_get}
 use Rattle.std.proofs.lemmas.Bool.{both_ways, leb-false, cases_eq}
 use Rattle.slot_memory.specs.declared.Cell.{Cell}
@@ -12,22 +12,14 @@ use Rattle.dock_rules.specs.declared.Attempt.{Attempt}
 use Rattle.dock_rules.specs.declared.BayRecord.{BayRecord}
 use Rattle.dock_rules.specs.declared.BayRecord.TheVariants.{Free as Idle, UnderWay, Ended, Owed}
 use Rattle.dock_rules.specs.Words.{number, Side, Putting, Taking}
-use Rattle.dock_rules.specs.Calls.{World, Book, Call, Open, Put, Take, Step, Collect, Abandon, Enter, Waive, Answer, Refused, record_of, attempt, outcome, is_free, owed_of, is_it, first, reasons, refusal, after_end, granted, answered, does, touches, attempted, step, collect, abandon, MayCall}
+use Rattle.dock_rules.specs.Calls.{World, Book, Call, Open, Put, Take, Step, Collect, Abandon, Enter, Waive, Answer, record_of, attempt, outcome, is_free, owed_of, is_it, reasons, refusal, after_end, granted, answered, does, touches, attempted, step, collect, abandon, MayCall}
 use Rattle.dock_rules.specs.History.{Moment, Event, Quiet, event, event_of, stored_by, running}
 use Rattle.dock_rules.specs.Law.{Each, Progress, bound, is_step, is_end, steps_in, ends_in}
 use Rattle.dock_rules.specs.Runs.{Start, State, handing, carried, moment_of, Reached, just_opened, one_more}
 use Rattle.dock_rules.proofs.Sound.{Sound}
+use Rattle.dock_rules.proofs.Reasons.{no_reason, refused_quiet}
 use Rattle.dock_rules.proofs.Rank.{before, rank, potential, marked_same, potential_most, falls_by_nothing, falls_by_rank}
 use Rattle.dock_rules.proofs.Falls.{Lowers, turn}
-
--- where no reason holds, every test has failed
-passes : (ts : List (Bool × Refusal)) → first ts ≡ None → Each (λ t. t.0 ≡ false) ts
-passes [] e = tt
-passes (t ∷ ts) e = let p = passed t.0 t.1 (first ts) e in (p.0, passes ts p.1)
-  where
-    passed : (b : Bool) (r : Refusal) (o : Option Refusal) → cond b (Some r) o ≡ None → (b ≡ false) × (o ≡ None)
-    passed true r o e = (cc, cc)
-    passed false r o e = (refl, e)
 
 -- a record with an attempt is that of a call under way
 under_way : (r : BayRecord) (a : Attempt) → attempt r ≡ Some a → r ≡ UnderWay a
@@ -64,10 +56,6 @@ module _ {E : Type 0} where
   -- a bay at rest has rank 5, whatever its mark
   rests_rank : (m : Meaning E) (k : Option Cell) (r : BayRecord) → rests r ≡ true → rank m k r ≡ 5
   rests_rank m k r e = grind arith
-
-  -- a call that is turned down tells nothing
-  refused_quiet : (c : Call E) (r : Refusal) → event_of c (Refused r) ≡ Quiet
-  refused_quiet c r = grind arith
 
 -- one call after a reached history
 module _ {E : Type 0} (K : ℕ) (st : Start) (h : List (Moment E)) (s : State E) (sound : Sound K st h s) where
@@ -126,7 +114,7 @@ module _ {E : Type 0} (K : ℕ) (st : Start) (h : List (Moment E)) (s : State E)
     lowers c may = go (refusal given c) refl
       where
         go : (o : Option Refusal) → refusal given c ≡ o → Done c (answered given c f o)
-        go None e = grants c (passes (reasons given c) e) (rw e at may)
+        go None e = grants c (no_reason (reasons given c) e) (rw e at may)
         go (Some r) e = rw refused_quiet stays
 
 -- a stretch with no end uses up the potential by its steps

@@ -46,8 +46,7 @@ module _ {E : Type 0} where
 
   -- a waiting put's slot is at most one
   length_back : (pt : List (Running E)) → length (back pt) ≤ length pt
-  length_back [] = omega arith
-  length_back (r ∷ rs) = omega arith
+  length_back pt = grind arith
 
   -- a put at the far end leaves the front
   front_push : (tk : List (Running E)) (q : List E) (e : E) → length tk ≤ length q → front tk (q ++ e ∷ []) ≡ front tk q ++ Some e ∷ []
@@ -77,8 +76,7 @@ module _ {E : Type 0} where
 
     -- with a take waiting, it is empty
     pub head_slot_empty : (pt : List (Running E)) (r : Running E) (rs : List (Running E)) (q : List E) → Shared L H T slots pt (r ∷ rs) q → get_or slots (H % L) None ≡ None
-    head_slot_empty pt r rs [] s = absurd (omega (arith, s.first))
-    head_slot_empty pt r rs (x ∷ q) s = ap (λ i. get_or slots (i % L) None) (sym (add-zero H)) ∙ s.ring 0 s.some
+    head_slot_empty pt r rs q s = grind arith
 
     -- the tail moves past the element of the put that waited, which is now in the queue
     pub tail_moves : (r : Running E) (e : E) (tk : List (Running E)) (q : List E) → r.request ≡ PutOf e → Shared L H T slots (r ∷ []) tk q → Shared L H (T + 1) slots [] tk (q ++ e ∷ [])

@@ -8,7 +8,7 @@ use Rattle.dock_rules.specs.declared.Attempt.{Attempt}
 use Rattle.dock_rules.specs.declared.BayRecord.TheVariants.{UnderWay}
 use Rattle.dock_rules.specs.Words.{Putting, Taking, side}
 use Rattle.dock_rules.specs.Calls.{Call, Answer, attempt, record_of, begun}
-use Rattle.dock_rules.specs.History.{Moment, Request, PutOf, TakeOf, Running, Starts, begins, first_line, event_of, running_after, stored_by, ended_by, untouched_by, alterations, running}
+use Rattle.dock_rules.specs.History.{Moment, Request, Running, Starts, begins, first_line, event_of, running_after, stored_by, ended_by, untouched_by, alterations, running}
 use Rattle.dock_rules.specs.Runs.{Start, State, moment_of}
 use Rattle.dock_rules.proofs.Stages.{stage}
 use Rattle.dock_rules.proofs.Sums.{sum_to, sum_change}
@@ -48,13 +48,11 @@ module _ {E : Type 0} {K : ℕ} {st : Start} {h : List (Moment E)} {s : State E}
 
   -- a fresh call is early
   one : (a : Request E) → early (UnderWay (record { serial = serial; line = first_line a; index = 0; held = false })) ≡ 1
-  one (PutOf e) = refl
-  one TakeOf = refl
+  one a = grind arith
 
   -- by its serial
   one_by : (x : ℕ) (a : Request E) → early_by x (UnderWay (record { serial = serial; line = first_line a; index = 0; held = false })) ≡ cond (eqb serial x) 1 0
-  one_by x (PutOf e) = refl
-  one_by x TakeOf = refl
+  one_by x a = grind arith
 
   -- so one more is early
   grows : sum_to st.bays (λ c. early (record_of started.dock c)) ≡ sum_to st.bays (λ c. early (record_of s.dock c)) + 1
@@ -84,18 +82,15 @@ module _ {E : Type 0} {K : ℕ} {st : Start} {h : List (Moment E)} {s : State E}
 
   -- a call's first line is of its request's side
   asks_side : (a : Request E) → side_of a ≡ side (first_line a)
-  asks_side (PutOf e) = refl
-  asks_side TakeOf = refl
+  asks_side a = grind arith
 
   -- no index is noted at line 5
   first-noted : (a : Request E) (P : Type 0) → Noted (stage (first_line a)) P
-  first-noted (PutOf e) P = tt
-  first-noted TakeOf P = tt
+  first-noted a P = grind arith
 
   -- and nothing is to know there
   first-stands : (a : Request E) (r : Running E) (held : Bool) (mk : _) (tr : Option E) → Stands st.length st.base v (side (first_line a)) (stage (first_line a)) r held mk tr
-  first-stands (PutOf e) r held mk tr = tt
-  first-stands TakeOf r held mk tr = tt
+  first-stands a r held mk tr = grind arith
 
   -- so the fresh call stands at its first line
   stands-first : Stood st.length st.base v now (begins q serial now) fresh (mark s.memory b) (slice_get trs b)

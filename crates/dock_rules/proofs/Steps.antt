@@ -36,21 +36,21 @@ module _ {E : Type 0} {K : ℕ} {m : Meaning E} {b : ℕ} where
   -- a read answers the index and changes nothing
   read_way : {o : Operation E} {r : Reply E} {n : Meaning E} → Way K m b o r n → (i : Index) → o ≡ Read i → ◌≡◌ {A = Reply E × Meaning E} (Number (index m i), m) (r, n)
   read_way (was_read j) i e = let same : j ≡ i = cc in ap (λ k. (Number (index m k), m)) (sym same)
-  read_way (was_marked c spare low) i e = absurd (let z : ◌≡◌ {A = ℕ} 0 1 = cc in omega arith)
-  read_way (was_accepted w spare low on) i e = absurd (let z : ◌≡◌ {A = ℕ} 0 1 = cc in omega arith)
-  read_way (was_refused w spare low) i e = absurd (let z : ◌≡◌ {A = ℕ} 0 1 = cc in omega arith)
+  read_way (was_marked c spare low) i e = cc
+  read_way (was_accepted w spare low on) i e = cc
+  read_way (was_refused w spare low) i e = cc
 
   -- a mark answers the cell and changes the bay's mark and the spare
   mark_way : {o : Operation E} {r : Reply E} {n : Meaning E} → Way K m b o r n → (c : Cell) → o ≡ Mark b c → (spare : ℕ) × (spare ≤ K) × ◌≡◌ {A = Reply E × Meaning E} (reading m c, marked m b (Some c) spare) (r, n)
-  mark_way (was_read j) c e = absurd (let z : ◌≡◌ {A = ℕ} 0 1 = cc in omega arith)
+  mark_way (was_read j) c e = cc
   mark_way (was_marked d spare low) c e = let same : d ≡ c = cc in (spare, low, ap (λ k. (reading m k, marked m b (Some k) spare)) (sym same))
-  mark_way (was_accepted w spare low on) c e = absurd (let z : ◌≡◌ {A = ℕ} 0 1 = cc in omega arith)
-  mark_way (was_refused w spare low) c e = absurd (let z : ◌≡◌ {A = ℕ} 0 1 = cc in omega arith)
+  mark_way (was_accepted w spare low on) c e = cc
+  mark_way (was_refused w spare low) c e = cc
 
   -- a store is live and accepted, or refused
   store_way : {o : Operation E} {r : Reply E} {n : Meaning E} → Way K m b o r n → (w : Write E) → o ≡ Store b w → ((spare : ℕ) × (spare ≤ K) × (live m b (target w) ≡ true) × ◌≡◌ {A = Reply E × Meaning E} (Verdict Accepted, written m w spare) (r, n)) ⊎ ((spare : ℕ) × (spare ≤ K) × ◌≡◌ {A = Reply E × Meaning E} (Verdict Refused, marked m b None spare) (r, n))
-  store_way (was_read j) w e = absurd (let z : ◌≡◌ {A = ℕ} 0 1 = cc in omega arith)
-  store_way (was_marked d spare low) w e = absurd (let z : ◌≡◌ {A = ℕ} 0 1 = cc in omega arith)
+  store_way (was_read j) w e = cc
+  store_way (was_marked d spare low) w e = cc
   store_way (was_accepted x spare low on) w e = let same : x ≡ w = cc in inl (spare, low, ap (λ k. live m b (target k)) (sym same) ∙ on, ap (λ k. (Verdict Accepted, written m k spare)) (sym same))
   store_way (was_refused x spare low) w e = inr (spare, low, refl)
 
@@ -62,8 +62,7 @@ single (w ∷ x ∷ ws) h k = absurd (omega arith)
 
 -- an option that is not some is none
 none_or_some : {X : Type 0} (o : Option X) → (is_some o ≡ false → o ≡ None)
-none_or_some None h = refl
-none_or_some (Some x) h = absurd (true≢false h)
+none_or_some o h = grind arith
 
 module _ {E : Type 0} {K : ℕ} {st : Start} {h : List (Moment E)} {s : State E} (i : Inv K st h s) where
   abbrev v : View E
@@ -71,23 +70,19 @@ module _ {E : Type 0} {K : ℕ} {st : Start} {h : List (Moment E)} {s : State E}
 
   -- a side's count, as the history has it
   count_is : (o : Side) → count v o ≡ st.base + alterations st.base h o
-  count_is Putting = refl
-  count_is Taking = refl
+  count_is o = grind arith
 
   -- no count goes further than the lifetime
   count_high : (o : Side) → count v o ≤ st.base + 2147483648
-  count_high Putting = omega (arith, i.inner.room, i.inner.static.started, i.inner.static.life)
-  count_high Taking = omega (arith, i.inner.room, i.inner.static.started, i.inner.static.life)
+  count_high o = grind arith
 
   -- a count is within its limit, which goes no further than the lifetime and a ring
   lim_high : (o : Side) → (count v o ≤ lim st.length st.base v o) × (lim st.length st.base v o ≤ st.base + 2147484672)
-  lim_high Putting = (omega (arith, i.inner.shared.tail, i.inner.shared.room), omega (arith, count_high Taking, i.inner.static.short))
-  lim_high Taking = (omega (arith, i.inner.shared.tail), omega (arith, count_high Putting))
+  lim_high o = grind arith
 
   -- at most one call waits on a side
   one_waits : (o : Side) → length (wait v o) ≤ 1
-  one_waits Putting = i.inner.shared.one_put
-  one_waits Taking = i.inner.shared.one_take
+  one_waits o = grind arith
 
   -- the slot at the index is not as the side wants it only where a call of that side waits
   busy_behind : (o : Side) → count v o < lim st.length st.base v o → outrun o (is_some (content st.length st.base v (count v o))) ≡ true → Behind v o
@@ -361,7 +356,7 @@ module _ {E : Type 0} {K : ℕ} {st : Start} {h : List (Moment E)} {s : State E}
         tray_now Taking c asks t = go r.request c asks t
           where
             go : (q : Request E) (c : Option E) → side_of q ≡ Taking → TrayOf q tr → TrayOf q (slice_get (found s.trays b c) b)
-            go (PutOf x) c asks t = absurd (let z : ◌≡◌ {A = ℕ} 0 1 = cc in omega arith)
+            go (PutOf x) c asks t = cc
             go TakeOf None asks t = t
             go TakeOf (Some y) asks t = ap is_some (nth_set_same s.trays b y long)
 

@@ -1,5 +1,5 @@
 -- A store in a slot is accepted: the call waits for its index to move. Assumes nothing.
-use Rattle.std.proofs.Common.{◌≡◌, ℕ, suc, ◌+◌, ◌%◌, ◌<◌, ◌≤◌, Bool, true, false, cond, ◌&&◌, eqb, ltb, List, [], ◌∷◌, length, set, is_some, Some, None, Option, sym, refl, ap, ◌∙◌, subst, inl, arith, length-set}
+use Rattle.std.proofs.Common.{◌≡◌, ℕ, suc, ◌+◌, ◌%◌, ◌<◌, ◌≤◌, Bool, true, cond, ◌&&◌, eqb, ltb, List, [], ◌∷◌, length, set, is_some, Some, None, Option, sym, refl, ap, ◌∙◌, subst, inl, arith, length-set}
 use Rattle.std.specs.List.{slice_get}
 use Rattle.std.proofs.lemmas.Bool.{false≢true, true≢false}
 use Rattle.slot_memory.specs.declared.Cell.TheVariants.{Slot}
@@ -18,7 +18,7 @@ use Rattle.dock_rules.proofs.Stages.{S15, S16, stage, line_at, number_at, number
 use Rattle.dock_rules.proofs.Shared.{Shared, held_by, tail_slot_held, head_slot_empty, head_slot_held, put_stores, take_stores}
 use Rattle.dock_rules.proofs.Knows.{View, count, wait, lim, queue_of, pos, Ready, First, spared}
 use Rattle.dock_rules.proofs.Changes.{Sharing, storing, store_change}
-use Rattle.dock_rules.proofs.Invariant.{early, early_by, side_of, TrayOf, view_of, hits, words, extent, Inv}
+use Rattle.dock_rules.proofs.Invariant.{early, early_by, side_of, TrayOf, view_of, words, extent, Inv}
 use Rattle.dock_rules.proofs.Bays.{written-mark, written-marks}
 use Rattle.dock_rules.proofs.Moments.{unaltered, put_view, take_view}
 use Rattle.dock_rules.proofs.Finish.{Places, no_more}
@@ -80,35 +80,27 @@ module _ {E : Type 0} {K : ℕ} {st : Start} {h : List (Moment E)} {s : State E}
 
   -- the call now waits, once
   storing_words : (d : Side) (r : Running E) (x : Option E) → wait v d ≡ [] → (y : ℕ) → words (storing st.length st.base (suc (length h)) d v r x) y ≡ cond (eqb r.serial y) 1 0 + words v y
-  storing_words Putting r x none y = omega (arith, ap (hits y) none)
-  storing_words Taking r x none y = omega (arith, ap (hits y) none)
+  storing_words d r x none y = grind arith
 
   -- one more store is accepted
   storing_extent : (d : Side) (r : Running E) (x : Option E) → wait v d ≡ [] → extent (storing st.length st.base (suc (length h)) d v r x) ≡ 1 + extent v
-  storing_extent Putting r x none = omega (arith, ap length none)
-  storing_extent Taking r x none = omega (arith, ap length none)
+  storing_extent d r x none = grind arith
 
   -- no index moves
   storing_count : (d : Side) (r : Running E) (x : Option E) (o : Side) → count (storing st.length st.base (suc (length h)) d v r x) o ≡ count v o
-  storing_count Putting r x Putting = refl
-  storing_count Putting r x Taking = refl
-  storing_count Taking r x Putting = refl
-  storing_count Taking r x Taking = refl
+  storing_count d r x o = grind arith
 
   -- the call waits on its side
   storing_wait : (d : Side) (r : Running E) (x : Option E) → wait (storing st.length st.base (suc (length h)) d v r x) d ≡ r ∷ []
-  storing_wait Putting r x = refl
-  storing_wait Taking r x = refl
+  storing_wait d r x = grind arith
 
   -- its slot is stored in
   storing_slots : (d : Side) (r : Running E) (x : Option E) → (storing st.length st.base (suc (length h)) d v r x).slots ≡ set v.slots (count v d % st.length) x
-  storing_slots Putting r x = refl
-  storing_slots Taking r x = refl
+  storing_slots d r x = grind arith
 
   -- no call is placed
   storing_ps : (d : Side) (r : Running E) (x : Option E) → (storing st.length st.base (suc (length h)) d v r x).ps ≡ v.ps
-  storing_ps Putting r x = refl
-  storing_ps Taking r x = refl
+  storing_ps d r x = grind arith
 
   -- the call that stored had read the index as it still is
   storing_unmoved : (d o : Side) (r : Running E) (rs : List (Running E)) → pos st.length st.base r ≡ count v d → rs ≡ cond (same_side d o) (r ∷ []) [] → Each (λ x. x.read ≡ alterations st.base h o) rs
@@ -141,8 +133,7 @@ module _ {E : Type 0} {K : ℕ} {st : Start} {h : List (Moment E)} {s : State E}
         ∙ ap (λ t. cond t (r ∷ []) []) (whole (same_side d o))
       where
         whole : (t : Bool) → (t && (eqb 15 15 && eqb 16 16)) ≡ t
-        whole true = refl
-        whole false = refl
+        whole t = grind arith
 
     -- the memory with the slot of number j stored in
     abbrev pub filled : ℕ → ℕ → Meaning E
@@ -202,9 +193,7 @@ module _ {E : Type 0} {K : ℕ} {st : Start} {h : List (Moment E)} {s : State E}
         })
       where
         nothing : (t : Bool) → cond {A = ℕ} t 0 0 ≡ 0
-        nothing true = refl
-        nothing false = refl
+        nothing t = grind arith
 
         index_same : (o : Side) → index (filled j spare) (own o) ≡ index s.memory (own o)
-        index_same Putting = refl
-        index_same Taking = refl
+        index_same o = grind arith

@@ -1,11 +1,11 @@
 -- Every run is linearizable and keeps the progress bound. Assumes nothing.
-use Rattle.std.proofs.Common.{◌≡◌, ℕ, ◌+◌, ◌<◌, List, length, Some, None, Option, sym, ap, ◌∙◌, subst, arith}
+use Rattle.std.proofs.Common.{◌≡◌, ℕ, ◌+◌, ◌<◌, List, length, Option, sym, ap, ◌∙◌, subst, arith}
 use Rattle.std.specs.List.{slice_get}
 use Rattle.slot_memory.specs.declared.Cell.{Cell}
 use Rattle.slot_memory.specs.Meaning.{mark}
 use Rattle.dock_rules.specs.declared.Attempt.{Attempt}
 use Rattle.dock_rules.specs.declared.BayRecord.{BayRecord}
-use Rattle.dock_rules.specs.declared.BayRecord.TheVariants.{Free as Idle, UnderWay, Ended, Owed}
+use Rattle.dock_rules.specs.declared.BayRecord.TheVariants.{UnderWay}
 use Rattle.dock_rules.specs.Lines.{wrap}
 use Rattle.dock_rules.specs.Words.{Side, Putting, Taking, side, number}
 use Rattle.dock_rules.specs.Calls.{record_of}
@@ -29,14 +29,7 @@ module _ {E : Type 0} where
 
   -- the calls that run are tied to the records
   tied_from : (L base : ℕ) (v : View E) (now : ℕ) (run : Option (Running E)) (rec : BayRecord) (mk : Option Cell) (tr : Option E) → Knows L base v now run rec mk tr → Tied run rec
-  tied_from L base v now None Idle mk tr k = tt
-  tied_from L base v now None (UnderWay a) mk tr k = k
-  tied_from L base v now None (Ended s o) mk tr k = tt
-  tied_from L base v now None (Owed s) mk tr k = tt
-  tied_from L base v now (Some r) Idle mk tr k = k
-  tied_from L base v now (Some r) (UnderWay a) mk tr k = (k.serial, k.line)
-  tied_from L base v now (Some r) (Ended s o) mk tr k = k
-  tied_from L base v now (Some r) (Owed s) mk tr k = k
+  tied_from L base v now run rec mk tr k = grind arith
 
 -- only stage 13 has the number 13
 at_13 : (g : Stage) → number_at g ≡ 13 → g ≡ S13
@@ -53,8 +46,7 @@ module _ {E : Type 0} {K : ℕ} {st : Start} {h : List (Moment E)} {s : State E}
 
   -- a side is behind where the history has a call that waits
   behind_is : (d : Side) → Behind (view_of st h s) d → 0 < length (waiting st.base h d)
-  behind_is Putting k = k
-  behind_is Taking k = k
+  behind_is d k = grind arith
 
   -- a reached state is sound for progress
   pub sound : Sound K st h s

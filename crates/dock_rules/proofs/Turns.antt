@@ -9,7 +9,7 @@ use Rattle.dock_rules.specs.declared.BayRecord.TheVariants.{Free as Idle, UnderW
 use Rattle.dock_rules.specs.Words.{Side, side}
 use Rattle.dock_rules.specs.Lines.{wrap}
 use Rattle.dock_rules.specs.Calls.{record_of}
-use Rattle.dock_rules.specs.History.{Request, PutOf, TakeOf, Running}
+use Rattle.dock_rules.specs.History.{Request, Running}
 use Rattle.dock_rules.specs.Law.{Each}
 use Rattle.dock_rules.specs.Runs.{Start, State}
 use Rattle.dock_rules.proofs.Sound.{own}
@@ -22,8 +22,7 @@ use Rattle.dock_rules.proofs.Invariant.{early, early_by, side_of, TrayOf, Knows,
 module _ {E : Type 0} (L base : ℕ) where
   -- a call under way has something in its tray
   pub has_tray : (q : Request E) (tr : Option E) → TrayOf q tr → is_some tr ≡ true
-  has_tray (PutOf e) tr k = ap is_some k
-  has_tray TakeOf tr k = k
+  has_tray q tr k = grind arith
 
   -- another bay's call goes on knowing what it knew
   pub known_still : {now : ℕ} {v u : View E} {kill : Option Cell} → Change L base (suc now) v u kill → (run : Option (Running E)) (rec : BayRecord) (mk : Option Cell) (tr : Option E) → Knows L base v now run rec mk tr → Knows L base u (suc now) run rec (spared kill mk) tr

@@ -43,7 +43,7 @@ module _ {E : Type 0} where
       where
         go : (k : Bool) → k ≡ true → MatchBool k (f.spare ≤ m.spare) (Unit {0}) → WayTo K m b (Mark b cell) (cond k (reading m cell, marked m b (Some cell) f.spare) (nothing cell, m))
         go true e h = was_marked cell f.spare (omega arith)
-        go false e h = absurd (let z : ◌≡◌ {A = ℕ} 0 1 = cc in omega arith)
+        go false e h = cc
     way_of (Store c w) range h =
         subst (λ x. May K m (Store x w) f → WayTo K m b (Store x w) (touched m (Store x w) f)) (sym range.0)
         (λ h. go (known m b (target w)) range.1 h)
@@ -51,4 +51,4 @@ module _ {E : Type 0} where
       where
         go : (k : Bool) → k ≡ true → MatchBool k (MayStore K m (live m b (target w)) f) (Unit {0}) → WayTo K m b (Store b w) (cond k (stored m b w f) (Verdict Refused, m))
         go true e h = store_way w (live m b (target w)) f.refuse refl refl h
-        go false e h = absurd (let z : ◌≡◌ {A = ℕ} 0 1 = cc in omega arith)
+        go false e h = cc

@@ -4,7 +4,7 @@ use Rattle.std.proofs.lemmas.List.{nil_from_length}
 use Rattle.std.proofs.lemmas.Bool.{cond-true, eq-eqb, leb-true}
 use Rattle.dock_rules.specs.declared.Attempt.{Attempt}
 use Rattle.dock_rules.specs.declared.BayRecord.TheVariants.{UnderWay}
-use Rattle.dock_rules.specs.Words.{Side, Putting, Taking, number}
+use Rattle.dock_rules.specs.Words.{Side, number}
 use Rattle.dock_rules.specs.Calls.{record_of}
 use Rattle.dock_rules.specs.History.{Running, Placed, place}
 use Rattle.dock_rules.specs.Law.{places}
@@ -15,8 +15,7 @@ use Rattle.dock_rules.proofs.Invariant.{early_by, hits, weight}
 
 -- what a test weighs is at most one
 pub at_most_one : (t : Bool) → cond t 1 0 ≤ 1
-at_most_one true = omega arith
-at_most_one false = omega arith
+at_most_one t = grind arith
 
 -- a call before its slot store weighs one
 pub early_own : (a : Attempt) → ltb (number a.line) 16 ≡ true → early_by a.serial (UnderWay a) ≡ 1
@@ -45,8 +44,7 @@ module _ {E : Type 0} where
         (nil_from_length (places w.serial v.ps) (omega arith), omega arith)
       where
         hits_wait : (d : Side) → wait v d ≡ w ∷ [] → 0 < hits w.serial v.puts + hits w.serial v.takes
-        hits_wait Putting e = omega (arith, ap (hits w.serial) e, hits_own w [])
-        hits_wait Taking e = omega (arith, ap (hits w.serial) e, hits_own w [])
+        hits_wait d e = grind arith
 
     -- nor has a call before its slot store, and its serial has been started
     pub early_weighs : (b : ℕ) (a : Attempt) → b < st.bays → record_of s.dock b ≡ UnderWay a → ltb (number a.line) 16 ≡ true → (places a.serial v.ps ≡ []) × (0 < weight st.bays v s a.serial) × (a.serial ≤ s.dock.started)

@@ -6,7 +6,7 @@ ghost use Rattle.std.specs.Prelude.{◌≡◌, Some};
 ghost use Rattle.dock_rules.specs.Runs.{EveryRun};
 ghost use Rattle.dock_rules.specs.Words.{label, outcome_word, abandoned_word, refusal_number, refusal_word};
 
-use slot_memory::Bay;
+use slot_memory::{BAYS, Bay};
 use std::fmt;
 
 /// Where a bay's call stands: the line that its next step runs. Lines of a put begin with E, lines
@@ -64,41 +64,42 @@ pub enum Stepped {
     Ended(Outcome),
 }
 
-/// Why a call is turned down, in the order in which the reasons are looked at.
+/// Why a call is turned down, in the order in which the reasons are looked at, each with the number by
+/// which it is printed.
 #[derive(Clone, Copy, Debug, PartialEq, Eq)]
 pub enum Refusal {
     /// The dock is open already.
-    Open,
+    Open = 1,
     /// The memory's length is no power of two from 1 to 1,024.
-    Length,
+    Length = 2,
     /// The number of bays is 0 or above 16.
-    Bays,
+    Bays = 3,
     /// The lifetime is 0 or above 2,147,483,648.
-    Life,
+    Life = 4,
     /// The dock is not open.
-    Shut,
+    Shut = 5,
     /// There are more or fewer trays than bays.
-    Trays,
+    Trays = 6,
     /// There is no bay of that number.
-    Bay,
+    Bay = 7,
     /// The bay is not free.
-    Busy,
+    Busy = 8,
     /// The lifetime's calls have all been started.
-    Worn,
+    Worn = 9,
     /// The bay has no call under way.
-    Idle,
+    Idle = 10,
     /// The bay has no call, or no receipt, of that serial.
-    Serial,
+    Serial = 11,
     /// The call is still under way.
-    Early,
+    Early = 12,
     /// The call has ended.
-    Late,
+    Late = 13,
     /// The book is full.
-    Book,
+    Book = 14,
 }
 
 /// A call under way, as its bay notes it.
-#[derive(Clone, Copy)]
+#[derive(Clone, Copy, Debug, PartialEq, Eq)]
 pub struct Attempt {
     pub serial: u32,
     pub line: Line,
@@ -109,7 +110,7 @@ pub struct Attempt {
 }
 
 /// What the dock notes of a bay.
-#[derive(Clone, Copy)]
+#[derive(Clone, Copy, Debug, PartialEq, Eq)]
 pub enum BayRecord {
     Free,
     UnderWay(Attempt),
@@ -120,8 +121,9 @@ pub enum BayRecord {
 }
 
 /// What the dock notes of itself.
-#[derive(Clone, Copy)]
+#[derive(Clone, Copy, Debug, PartialEq, Eq)]
 pub struct DockState {
+    // No `Option` round the others: each definition of the rules would then read bays and records through it.
     pub opened: bool,
     /// How many bays there are.
     pub bays: Bay,
@@ -129,30 +131,16 @@ pub struct DockState {
     pub lifetime: u32,
     /// How many calls have been started: the serial of the last.
     pub started: u32,
-    pub records: [BayRecord; 16],
+    // An array beside `bays`, since no call of the dock allocates.
+    pub records: [BayRecord; BAYS as usize],
 }
 
-impl Refusal {
-    /// The number of the reason, by which it is printed.
-    pub fn number(self) -> u8
-        ensures { result ≡ refusal_number self }
-    {
-        match self {
-            Refusal::Open => 1,
-            Refusal::Length => 2,
-            Refusal::Bays => 3,
-            Refusal::Life => 4,
-            Refusal::Shut => 5,
-            Refusal::Trays => 6,
-            Refusal::Bay => 7,
-            Refusal::Busy => 8,
-            Refusal::Worn => 9,
-            Refusal::Idle => 10,
-            Refusal::Serial => 11,
-            Refusal::Early => 12,
-            Refusal::Late => 13,
-            Refusal::Book => 14,
-        }
+impl From<Refusal> for u8 {
+    ghost from_gives = { λ refusal number. number ≡ refusal_number refusal };
+
+    /// The number of the reason.
+    fn from(refusal: Refusal) -> u8 {
+        refusal as u8
     }
 }
 
@@ -242,8 +230,6 @@ impl fmt::Display for Refusal {
 
 /// The run law, as a theorem: for every kind of element, every memory that keeps its rules and every
 /// run of calls, each history that is reached is linearizable and keeps the progress bound.
-pub fn every_run_stands<E>() -> u8
+pub fn every_run_stands<E>()
     ensures { EveryRun E }
-{
-    0
-}
+{}

@@ -1,26 +1,20 @@
-use Rattle.std.proofs.Common.{refl, rules}
+use Rattle.std.proofs.Common.{refl, rules, arith}
+use Rattle.std.proofs.lemmas.Bool.Decides.{nat_tests}
 use Rattle.std.proofs.lemmas.Option.{slice_get_read}
-use Rattle.dock.proofs.Receipts.{elsewhere}
 use Rattle.dock.proofs.Lawful.{carries}
-use Rattle.dock.proofs.Doing.{turned_down, entering}
+use Rattle.dock.proofs.Doing.{turned_down, granted_dry}
 use Rattle.dock.proofs.Dock.enter.Goals as goal
 
-pub returns-then-not-self : goal.returns-then-not-self
-returns-then-not-self g c = record { does = turned_down _ _ _ _ (search rules); law = carries (turned_down _ _ _ _ (search rules)); kept = refl; receipt = refl; unmoved = refl; granted = search rules; lent = refl; stays = λ x n o. o }
+pub returns-in-Err-clause-does : goal.returns-in-Err-clause-does
+returns-in-Err-clause-does g c = turned_down _ _ _ _ (grind (arith, nat_tests))
 
-pub returns-then-trays-self : goal.returns-then-trays-self
-returns-then-trays-self g c = record { does = turned_down _ _ _ _ (search rules); law = carries (turned_down _ _ _ _ (search rules)); kept = refl; receipt = refl; unmoved = refl; granted = search rules; lent = refl; stays = λ x n o. o }
+pub returns-in-Err-clause-law : goal.returns-in-Err-clause-law
+returns-in-Err-clause-law g c = carries (returns-in-Err-clause-does g c)
 
-pub returns-then-receipt-self : goal.returns-then-receipt-self
-returns-then-receipt-self g c = record { does = turned_down _ _ _ _ (search rules); law = carries (turned_down _ _ _ _ (search rules)); kept = refl; receipt = refl; unmoved = refl; granted = search rules; lent = refl; stays = λ x n o. o }
-
-pub returns-then-not-owes : goal.returns-then-not-owes
-returns-then-not-owes g c = record { does = turned_down _ _ _ _ (search rules); law = carries (turned_down _ _ _ _ (search rules)); kept = refl; receipt = refl; unmoved = refl; granted = search rules; lent = refl; stays = λ x n o. o }
-
-pub returns-then-book : goal.returns-then-book
-returns-then-book g c = record { does = turned_down _ _ _ _ (search rules); law = carries (turned_down _ _ _ _ (search rules)); kept = refl; receipt = refl; unmoved = refl; granted = search rules; lent = refl; stays = λ x n o. o }
-
-pub returns : goal.returns
-returns g c =
+pub returns-clause-does : goal.returns-clause-does
+returns-clause-does g c =
     let lies = slice_get_read c.args.trays.now _ c.args.receipt.bay c.index-trays-bay.result refl (search rules) c.index-trays-bay.is in
-    record { does = entering _ _ _ _ _ (search rules) lies; law = carries (entering _ _ _ _ _ (search rules) lies); kept = refl; receipt = tt; unmoved = tt; granted = search rules; lent = refl; stays = λ x. elsewhere _ _ x _ }
+    granted_dry _ _ _ _ _ refl (grind (arith, nat_tests)) (search rules)
+
+pub returns-clause-law : goal.returns-clause-law
+returns-clause-law g c = carries (returns-clause-does g c)

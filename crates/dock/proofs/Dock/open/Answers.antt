@@ -1,26 +1,35 @@
-use Rattle.std.proofs.Common.{◌≡◌, ℕ, refl, arith, rules}
+use Rattle.std.proofs.Common.{arith}
+use Rattle.std.proofs.lemmas.Bool.Decides.{nat_tests}
 use Rattle.dock.proofs.Lawful.{starts}
 use Rattle.dock.proofs.Doing.{turned_down, opening}
 use Rattle.dock.proofs.Dock.open.Goals as goal
 
-pub returns-then-self : goal.returns-then-self
-returns-then-self g c = record { does = λ t k. turned_down _ _ _ _ (search rules); law = λ t k. starts c.ranges.base.fits (turned_down _ _ _ _ (search rules)); exact = refl; fixed = refl; stays = λ x o. o }
+pub returns-then-self-clause-does : goal.returns-then-self-clause-does
+returns-then-self-clause-does g c = λ t k. turned_down _ _ _ _ (grind (arith, nat_tests))
 
-pub returns-then-not-fits_ring : goal.returns-then-not-fits_ring
-returns-then-not-fits_ring g c = record { does = λ t k. turned_down _ _ _ _ (search rules); law = λ t k. starts c.ranges.base.fits (turned_down _ _ _ _ (search rules)); exact = refl; fixed = refl; stays = λ x o. o }
+pub returns-then-self-clause-law : goal.returns-then-self-clause-law
+returns-then-self-clause-law g c = λ t k. starts c.ranges.base.fits (returns-then-self-clause-does g c t k)
 
-pub returns-then-bays-eq0 : goal.returns-then-bays-eq0
-returns-then-bays-eq0 g c = record { does = λ t k. turned_down _ _ _ _ (search rules); law = λ t k. starts c.ranges.base.fits (turned_down _ _ _ _ (search rules)); exact = refl; fixed = refl; stays = λ x o. o }
+pub returns-then-not-fits_ring-clause-does : goal.returns-then-not-fits_ring-clause-does
+returns-then-not-fits_ring-clause-does g c = λ t k. turned_down _ _ _ _ (grind (arith, nat_tests))
 
-pub returns-then-lifetime-eq0 : goal.returns-then-lifetime-eq0
-returns-then-lifetime-eq0 g c = record { does = λ t k. turned_down _ _ _ _ (search rules); law = λ t k. starts c.ranges.base.fits (turned_down _ _ _ _ (search rules)); exact = refl; fixed = refl; stays = λ x o. o }
+pub returns-then-not-fits_ring-clause-law : goal.returns-then-not-fits_ring-clause-law
+returns-then-not-fits_ring-clause-law g c = λ t k. starts c.ranges.base.fits (returns-then-not-fits_ring-clause-does g c t k)
 
-pub returns : goal.returns
-returns g c =
-    record {
-      does = λ t k. opening _ _ _ _ _ _ (search rules) c.clear.ensures.rules;
-      law = λ t k. starts c.ranges.base.fits (opening _ _ _ _ _ _ (search rules) c.clear.ensures.rules);
-      exact = c.clear.ensures.exact;
-      fixed = c.clear.ensures.fixed;
-      stays = λ x o. let z : ◌≡◌ {A = ℕ} 0 1 = cc (o.opened, c.if-self.false) in absurd (omega arith);
-    }
+pub returns-then-not-contains-clause-does : goal.returns-then-not-contains-clause-does
+returns-then-not-contains-clause-does g c = λ t k. turned_down _ _ _ _ (grind (arith, nat_tests))
+
+pub returns-then-not-contains-clause-law : goal.returns-then-not-contains-clause-law
+returns-then-not-contains-clause-law g c = λ t k. starts c.ranges.base.fits (returns-then-not-contains-clause-does g c t k)
+
+pub returns-then-not-contains-2-clause-does : goal.returns-then-not-contains-2-clause-does
+returns-then-not-contains-2-clause-does g c = λ t k. turned_down _ _ _ _ (grind (arith, nat_tests))
+
+pub returns-then-not-contains-2-clause-law : goal.returns-then-not-contains-2-clause-law
+returns-then-not-contains-2-clause-law g c = λ t k. starts c.ranges.base.fits (returns-then-not-contains-2-clause-does g c t k)
+
+pub returns-clause-does : goal.returns-clause-does
+returns-clause-does g c = λ t k. opening _ _ _ _ _ _ (grind (arith, nat_tests)) c.clear.ensures.rules
+
+pub returns-clause-law : goal.returns-clause-law
+returns-clause-law g c = λ t k. starts c.ranges.base.fits (returns-clause-does g c t k)

@@ -62,10 +62,10 @@ pub returns-else-tail-call-4 : goal.returns-else-tail-call-4
 returns-else-tail-call-4 g c = reading _ c.in-D6.is (Number _) refl c.read-tail-in-D6.ensures (search rules) refl refl
 
 pub returns-in-Some : goal.returns-in-Some
-returns-in-Some g c = touching _ c.in-D9.is (Content _) (search rules) c.in-Some.ensures refl refl refl
+returns-in-Some g c = touching _ c.in-D9.is (Content _) (search rules) c.mark_slot-found.ensures (search rules) refl (search rules)
 
-pub returns-in-None : goal.returns-in-None
-returns-in-None g c = touching _ c.in-D9.is (Content _) (search rules) c.in-None.ensures refl refl refl
+pub returns-in_default : goal.returns-in_default
+returns-in_default g c = touching _ c.in-D9.is (Content _) (search rules) c.mark_slot-found.ensures (search rules) refl (search rules)
 
 pub returns-then-head-call : goal.returns-then-head-call
 returns-then-head-call g c = reading _ c.in-D10.is (Number _) refl c.read-head-in-D10.ensures (search rules) refl refl
