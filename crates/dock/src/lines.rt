@@ -50,7 +50,7 @@ pub(crate) fn run<M: SlotMemory>(
             let _ = memory.store_index(bay, Index::Tail, call.index.wrapping_add(1));
             Stepped::At(Line::E5)
         }
-        Line::E15 => match memory.fill_slot(bay, slot, trays[bay as usize]) {
+        Line::E15 => match memory.store_slot(bay, slot, Some(trays[bay as usize])) {
             Stored::Accepted => Stepped::At(Line::E16),
             Stored::Refused => Stepped::At(Line::E5),
         },
@@ -91,7 +91,7 @@ pub(crate) fn run<M: SlotMemory>(
             let _ = memory.store_index(bay, Index::Head, call.index.wrapping_add(1));
             Stepped::At(Line::D5)
         }
-        Line::D15 => match memory.empty_slot(bay, slot) {
+        Line::D15 => match memory.store_slot(bay, slot, None) {
             Stored::Accepted => Stepped::At(Line::D16),
             Stored::Refused => Stepped::At(Line::D5),
         },

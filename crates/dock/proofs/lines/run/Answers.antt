@@ -85,11 +85,11 @@ returns-else-head-call-2 g c = touching _ c.in-D12.is (Number _) refl c.mark_ind
 pub returns-in-D13 : goal.returns-in-D13
 returns-in-D13 g c = touching _ c.in-D13.is (Verdict _) refl c.store_index-in-D13.ensures refl refl refl
 
-pub returns-in-Accepted-empty_slot : goal.returns-in-Accepted-empty_slot
-returns-in-Accepted-empty_slot g c = touching _ c.in-D15.is (Verdict _) (search rules) c.in-Accepted-empty_slot.ensures refl refl refl
+pub returns-in-Accepted-store_slot : goal.returns-in-Accepted-store_slot
+returns-in-Accepted-store_slot g c = touching _ c.in-D15.is (Verdict _) (search rules) c.in-Accepted-store_slot.ensures refl refl refl
 
-pub returns-in-Refused-empty_slot : goal.returns-in-Refused-empty_slot
-returns-in-Refused-empty_slot g c = touching _ c.in-D15.is (Verdict _) (search rules) c.in-Refused-empty_slot.ensures refl refl refl
+pub returns-in-Refused-store_slot : goal.returns-in-Refused-store_slot
+returns-in-Refused-store_slot g c = touching _ c.in-D15.is (Verdict _) (search rules) c.in-Refused-store_slot.ensures refl refl refl
 
 pub returns-then-head-call-3 : goal.returns-then-head-call-3
 returns-then-head-call-3 g c = touching _ c.in-D16.is (Number _) refl c.mark_index-head-in-D16.ensures (search rules) refl refl
