@@ -7,7 +7,8 @@ use Rattle.dock_rules.specs.declared.Refusal.{Refusal}
 use Rattle.dock_rules.specs.Calls.{World, Call, Answer, refusal, touches, does, MayCall}
 use Rattle.dock_rules.specs.History.{Moment}
 use Rattle.dock_rules.specs.Runs.{Start, Reached, one_more, carried, moment_of}
-use Rattle.worked_examples.specs.Play.{Game, makes, takes, called, after}
+use Rattle.board.specs.Game.{Game, makes, taken, called}
+use Rattle.worked_examples.specs.Play.{after}
 use Rattle.worked_examples.specs.Histories.{state_of, told}
 
 -- whether free results may be
@@ -67,12 +68,12 @@ may_call_lem K w c f e = may_answer_lem K w.memory (refusal w c) (touches w c) f
 abbrev own_trays : World ℕ → Bool
 own_trays w = eqb (length w.trays) w.dock.bays
 
-abbrev taken : Game → Call ℕ → Free
-taken g c = takes g.board g.world.memory (makes g.world c)
+abbrev freely : Game ℕ → Call ℕ → Free
+freely g c = taken g.kind g.world.memory (makes g.world c)
 
-abbrev pub is_run : ℕ → Game → List (Call ℕ) → Bool
+abbrev pub is_run : ℕ → Game ℕ → List (Call ℕ) → Bool
 is_run K g [] = true
-is_run K g (c ∷ cs) = own_trays g.world && (may_call K g.world c (taken g c) && is_run K (called g c).1 cs)
+is_run K g (c ∷ cs) = own_trays g.world && (may_call K g.world c (freely g c) && is_run K (called g c).1 cs)
 
 carried_on : (w v : World ℕ) → own_trays w ≡ true → carried (state_of w) w.trays v ≡ state_of v
 carried_on w v e = λ i. record { dock = v.dock; memory = v.memory; trays = cond (e i) v.trays w.trays }
@@ -83,10 +84,10 @@ module _ (K : ℕ) (st : Start) where
       subst (λ s. Reached K st (moment_of c a s ∷ h) s) (carried_on w v own)
       (one_more r c w.trays w.book f a v (inl refl) so does-so)
 
-  pub play_reaches : (cs : List (Call ℕ)) (h : List (Moment ℕ)) (g : Game) → is_run K g cs ≡ true → Reached K st h (state_of g.world) → Reached K st (told g h cs) (state_of (after g cs).world)
+  pub play_reaches : (cs : List (Call ℕ)) (h : List (Moment ℕ)) (g : Game ℕ) → is_run K g cs ≡ true → Reached K st h (state_of g.world) → Reached K st (told g h cs) (state_of (after g cs).world)
   play_reaches [] h g e r = r
   play_reaches (c ∷ cs) h g e r =
-      let own = and_parts (own_trays g.world) (may_call K g.world c (taken g c) && is_run K (called g c).1 cs) e in
-      let rest = and_parts (may_call K g.world c (taken g c)) (is_run K (called g c).1 cs) own.1 in
-      let so = may_call_lem K g.world c (taken g c) rest.0 in
-      play_reaches cs _ (called g c).1 rest.1 (one_call h g.world c (taken g c) _ _ refl own.0 so r)
+      let own = and_parts (own_trays g.world) (may_call K g.world c (freely g c) && is_run K (called g c).1 cs) e in
+      let rest = and_parts (may_call K g.world c (freely g c)) (is_run K (called g c).1 cs) own.1 in
+      let so = may_call_lem K g.world c (freely g c) rest.0 in
+      play_reaches cs _ (called g c).1 rest.1 (one_call h g.world c (freely g c) _ _ refl own.0 so r)

@@ -9,14 +9,16 @@ use Rattle.dock_rules.specs.declared.Line.TheVariants.{E6, E9, E10, E15, E16, E1
 use Rattle.dock_rules.specs.declared.Outcome.TheVariants.{Full, Stored, Empty, Taken}
 use Rattle.dock_rules.specs.declared.Abandoned.TheVariants.{Untouched, Stored as StoredAway}
 use Rattle.dock_rules.specs.Calls.{Call, Put, Take, Collect, Abandon, Opened, Began, Stands, End, Left}
-use Rattle.worked_examples.specs.Play.{Game, OnMarks, called, answers, after, steps, shut_world, open_call, over_marks}
+use Rattle.board.specs.Kinds.{OnMarks}
+use Rattle.board.specs.Game.{Game, called}
+use Rattle.worked_examples.specs.Play.{answers, after, steps, shut_world, open_call, over_marks}
 
 -- the open itself is granted
 abbrev pub OpenIsGranted : Type 0
-OpenIsGranted = (called (record { board = OnMarks; world = shut_world 2 1 }) (open_call 2 0)).0 ≡ Opened
+OpenIsGranted = (called (record { kind = OnMarks; world = shut_world 2 1 }) (open_call 2 0)).0 ≡ Opened
 
 -- two bays and one slot
-abbrev pub one_slot : Game
+abbrev pub one_slot : Game ℕ
 one_slot = over_marks 2 1 0
 
 -- 1. On a ring of one slot a put of 5, alone, ends STORED at its 7th step.
@@ -25,7 +27,7 @@ PutAlone =
     answers one_slot (Put 0 5 ∷ steps 0 7) ≡ Began 1 ∷ Stands E6 ∷ Stands E9 ∷ Stands E10 ∷ Stands E15 ∷ Stands E16 ∷ Stands E17 ∷ End Stored ∷ []
 
 -- that put has ended and is collected
-abbrev pub filled : Game
+abbrev pub filled : Game ℕ
 filled = after one_slot (Put 0 5 ∷ steps 0 7 ++ Collect 0 1 ∷ [])
 
 abbrev pub one_take : List (Call ℕ)
@@ -51,7 +53,7 @@ abbrev pub TakeOnNew : Type 0
 TakeOnNew = answers one_slot (Take 0 ∷ steps 0 2) ≡ Began 1 ∷ Stands D6 ∷ End Empty ∷ []
 
 -- the indices are at the top of 32 bits
-abbrev pub at_top : Game
+abbrev pub at_top : Game ℕ
 at_top = over_marks 1 2 4294967295
 
 abbrev pub one_put : List (Call ℕ)

@@ -15,14 +15,15 @@ use Rattle.dock_rules.specs.Calls.{World, Call, Put, Step, Began, Stands, End, L
 use Rattle.dock_rules.specs.History.{Moment, PutOf, TakeOf, Placed, EndedCall, placed, ended}
 use Rattle.dock_rules.specs.Law.{queue, gives}
 use Rattle.dock_rules.specs.Runs.{Start, State, Reached, moment_of}
-use Rattle.worked_examples.specs.Play.{Game, called, answers, after, steps, over_rows}
+use Rattle.board.specs.Game.{Game, called}
+use Rattle.worked_examples.specs.Play.{answers, after, steps, over_rows}
 use Rattle.worked_examples.specs.Alone.{one_slot, given_up}
 use Rattle.worked_examples.specs.Together.{two_slots, stopped, helping, one_in, beside_head}
 
 abbrev pub state_of : World ℕ → State ℕ
 state_of w = record { dock = w.dock; memory = w.memory; trays = w.trays }
 
-abbrev pub told : Game → List (Moment ℕ) → List (Call ℕ) → List (Moment ℕ)
+abbrev pub told : Game ℕ → List (Moment ℕ) → List (Call ℕ) → List (Moment ℕ)
 told g h [] = h
 told g h (c ∷ cs) = let t = called g c in told t.1 (moment_of c t.0 (state_of t.1.world) ∷ h) cs
 

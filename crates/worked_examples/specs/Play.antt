@@ -1,65 +1,28 @@
--- Plays: lists of calls, made one after another on a dock over one of the two boards, by the
+-- Plays: lists of calls, made one after another on a dock over a board of either kind, by the
 -- definitions alone. Elements are numbers.
 --
---   board     which memory it is, with what it notes besides its meaning: the row memory notes of each
---             mark whether it is spoilt
---   game      the board and the world
+--   kind      which memory the board is, with what it notes besides its meaning
+--   game      the board's kind and the world
 --   opened    a game in which nothing but the open has been called: L empty slots, both indices the
 --             base, a lifetime of 1,000 calls, n trays with 0 in each, a book for 4 elements
 --
 -- Assumes nothing.
-use Rattle.std.specs.Prelude.{ℕ, false, List, [], ◌∷◌, replicate, Some, None, Option}
-use Rattle.slot_memory.specs.Meaning.{Meaning, bays}
-use Rattle.slot_memory.specs.Rules.{Operation, Free}
-use Rattle.mark_memory.specs.Exact.{accepting, fresh}
-use Rattle.row_memory.specs.declared.RowMark.{RowMark}
-use Rattle.row_memory.specs.Exact.{chosen, marks_after}
+use Rattle.std.specs.Prelude.{ℕ, false, List, [], ◌∷◌, replicate, None}
+use Rattle.mark_memory.specs.Exact.{fresh}
+use Rattle.board.specs.declared.BoardKind.TheVariants as board
+use Rattle.board.specs.Kinds.{Kind, fresh_kind}
+use Rattle.board.specs.Game.{Game, called}
 use Rattle.dock_rules.specs.declared.BayRecord.TheVariants.{Free as Idle}
 use Rattle.dock_rules.specs.declared.DockState.{DockState}
-use Rattle.dock_rules.specs.declared.Refusal.{Refusal}
-use Rattle.dock_rules.specs.Calls.{World, Book, Call, Open, Step, Answer, most_bays, refusal, touches, does}
-
-pub data Board : Type 0 where
-  OnMarks : Board
-  OnRows : List (Option RowMark) → Board
-
-pub record Game : Type 0 where
-  pub board : Board
-  pub world : World ℕ
-
--- the operation that a call makes on the memory: none if it is turned down
-abbrev pub made : Option Refusal → Option (Operation ℕ) → Option (Operation ℕ)
-made None o = o
-made (Some r) o = None
-
-abbrev pub makes : World ℕ → Call ℕ → Option (Operation ℕ)
-makes w c = made (refusal w c) (touches w c)
-
--- the free results that the board takes: where no operation is made, none is used
-abbrev pub takes : Board → Meaning ℕ → Option (Operation ℕ) → Free
-takes OnMarks m o = accepting
-takes (OnRows ks) m None = accepting
-takes (OnRows ks) m (Some o) = chosen m ks o
-
-abbrev pub board_after : Board → Meaning ℕ → Option (Operation ℕ) → Board
-board_after OnMarks m o = OnMarks
-board_after (OnRows ks) m None = OnRows ks
-board_after (OnRows ks) m (Some o) = OnRows (marks_after m ks o)
-
--- one call: its answer, and the game afterwards
-abbrev pub called : Game → Call ℕ → Answer × Game
-called g c =
-    let o = makes g.world c in
-    let t = does g.world c (takes g.board g.world.memory o) in
-    (t.0, record { board = board_after g.board g.world.memory o; world = t.1 })
+use Rattle.dock_rules.specs.Calls.{World, Book, Call, Open, Step, Answer, most_bays}
 
 -- the answers of a play, in their order
-abbrev pub answers : Game → List (Call ℕ) → List Answer
+abbrev pub answers : Game ℕ → List (Call ℕ) → List Answer
 answers g [] = []
 answers g (c ∷ cs) = let t = called g c in t.0 ∷ answers t.1 cs
 
 -- the game after a play
-abbrev pub after : Game → List (Call ℕ) → Game
+abbrev pub after : Game ℕ → List (Call ℕ) → Game ℕ
 after g [] = g
 after g (c ∷ cs) = after (called g c).1 cs
 
@@ -80,11 +43,11 @@ shut_world n L = record { dock = shut_dock; memory = fresh (replicate L None); t
 abbrev pub open_call : ℕ → ℕ → Call ℕ
 open_call n base = Open n 1000 base
 
-abbrev pub opened : Board → ℕ → ℕ → ℕ → Game
-opened k n L base = (called (record { board = k; world = shut_world n L }) (open_call n base)).1
+abbrev pub opened : Kind → ℕ → ℕ → ℕ → Game ℕ
+opened k n L base = (called (record { kind = k; world = shut_world n L }) (open_call n base)).1
 
-abbrev pub over_marks : ℕ → ℕ → ℕ → Game
-over_marks n L base = opened OnMarks n L base
+abbrev pub over_marks : ℕ → ℕ → ℕ → Game ℕ
+over_marks n L base = opened (fresh_kind board.Marks) n L base
 
-abbrev pub over_rows : ℕ → ℕ → ℕ → Game
-over_rows n L base = opened (OnRows (replicate bays None)) n L base
+abbrev pub over_rows : ℕ → ℕ → ℕ → Game ℕ
+over_rows n L base = opened (fresh_kind board.Rows) n L base

@@ -10,17 +10,18 @@ use Rattle.std.specs.Prelude.{◌≡◌, ℕ, List, [], ◌∷◌, ◌++◌}
 use Rattle.dock_rules.specs.declared.Line.TheVariants.{E5, E6, E9, E10, E12, E13, E15, E16, E17, D5, D6, D9, D10, D15, D16, D17}
 use Rattle.dock_rules.specs.declared.Outcome.TheVariants.{Stored, Empty, Taken}
 use Rattle.dock_rules.specs.Calls.{Call, Put, Take, Step, Collect, Answer, Began, Stands, End}
-use Rattle.worked_examples.specs.Play.{Game, answers, after, steps, over_marks, over_rows}
+use Rattle.board.specs.Game.{Game}
+use Rattle.worked_examples.specs.Play.{answers, after, steps, over_marks, over_rows}
 
 -- two bays and two slots
-abbrev pub two_slots : Game
+abbrev pub two_slots : Game ℕ
 two_slots = over_marks 2 2 0
 
 -- bay 0's put is stopped
 abbrev pub stopped : List (Call ℕ)
 stopped = Put 0 5 ∷ steps 0 5
 
-abbrev pub at_e16 : Game
+abbrev pub at_e16 : Game ℕ
 at_e16 = after two_slots stopped
 
 -- 5. While that put stands there, bay 1's take ends EMPTY at its 2nd step.
