@@ -47,7 +47,7 @@ impl FromStr for Verb {
     }
 }
 
-// The verb that a word is. A word that is no UTF-8 is none.
+// The verb that a word is. A word that is no UTF-8 is none. It is matched as text, since a `match` on bytes is a test a byte.
 fn verb_of(word: &[u8]) -> Result<Verb, Fault>
     ensures { result ≡ ok_or (verb_of word.now) Fault.Command }
 {
@@ -69,7 +69,8 @@ impl Lexer<'_> {
         }
     }
 
-    // The next token, which has to be the number of a bay, or of bays.
+    // The next token, which has to be the number of a bay, or of bays: within `number`'s bound the cast loses nothing,
+    // and `try_from` would bring in a second bound.
     fn bay(&mut self) -> Result<Bay, Fault>
         ensures value { result ≡ ok_or (number_next most_bay (words_left self.old)) Fault.Number }
         ensures rest { words_left self.new ≡ others (words_left self.old) }

@@ -23,6 +23,7 @@ impl Transcript<'_> {
     fn heed_all(&mut self, session: &mut Session<'_>) -> Result<(), AllocError>
         ensures { OnOk result (Ends session.old self.old self.new) }
     {
+        // No `for`, which would hold the transcript while the body prints to it.
         while let Some(read) = self.read() {
             self.print(session.heed(read))?;
         }

@@ -12,7 +12,8 @@ pub(crate) struct Transcript<'a> {
     pub(crate) heap: Global,
     schedule: Schedule<'a>,
     out: String,
-    /// The number of the line that was read last; 0 before the first.
+    /// The number of the line that was read last; 0 before the first. It is kept for `print`, so that an `enumerate` of
+    /// the schedule would not spare it.
     number: u32,
     ghost fits: { number + length (lines_left schedule) < 2 ^ 32 },
 }

@@ -73,6 +73,7 @@ impl Session<'_> {
         }
     }
 
+    // As `leave`, but for the dock's one call: passed as a closure it would bring its contract into the clause.
     fn collect(&mut self, bay: Bay) -> Result<Response, Refusal>
         ensures { Turned (λ d. finishes bay (last_of d bay) (make d (Collect bay (last_of d bay)))) self.old (said result) self.new }
     {
