@@ -2,3 +2,4 @@ pub mod Cutting
 pub mod Reading
 pub mod Parts
 pub mod Spelling
+pub mod Commanding

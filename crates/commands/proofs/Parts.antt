@@ -1,7 +1,9 @@
 -- A line and its words, a text and its lines: the first part is the front, and the others are those of the back.
 -- Assumes nothing.
-use Rattle.std.proofs.Common.{◌≡◌, ℕ, ◌<◌, Bool, true, false, cond, eqb, List, [], ◌∷◌, length, Some, None, Option, unwrap_or, sym, refl, ap, ◌∙◌, arith, Bor}
-use Rattle.std.specs.Option.{option_map}
+use Rattle.std.proofs.Common.{◌≡◌, ℕ, ◌<◌, Bool, true, false, cond, eqb, List, [], ◌∷◌, length, Some, None, Option, unwrap_or, sym, refl, ap, ◌∙◌, subst, arith, Bor}
+use Rattle.std.specs.Bool.{⊤}
+use Rattle.std.specs.Option.{option_map, MatchOption}
+use Rattle.std.specs.Iterator.{MakesProgress, item_count}
 use Rattle.commands.specs.Text.{lines_of, words_of, front, back, glued, line_feed, space, number_of}
 use Rattle.commands.specs.Commands.{Read, command_of, next_command}
 use Rattle.commands.specs.Tokens.{Lexeme, lexed, words_in, next_token}
@@ -25,9 +27,9 @@ lines_cut b [] = first_part lines_of lines_in (λ t. refl) line_feed b [] refl (
 lines_cut b (x ∷ xs) = first_part lines_of lines_in (λ t. refl) line_feed b (x ∷ xs) (ap (glued b) (lines_cut x xs)) (eqb b line_feed)
 
 -- the token of a line's front
-pub token_is : (t w : List ℕ) (o : Option (List ℕ)) (n : Option ℕ) → w ≡ front space t → o ≡ back space t → n ≡ number_of w → ◌≡◌ {A = Lexeme × List (List ℕ)} (lexed w n, words_in o) (next_token (words_of t))
+pub token_is : (t w : List ℕ) (o : Option (List ℕ)) (n : Option ℕ) → w ≡ front space t → o ≡ back space t → n ≡ number_of w → ◌≡◌ {A = Option Lexeme × List (List ℕ)} (Some (lexed w n), words_in o) (next_token (words_of t))
 token_is t w o n f b e =
-    let first : ◌≡◌ {A = Lexeme × List (List ℕ)} (lexed w n, words_in o) (lexed (front space t) (number_of (front space t)), words_in (back space t)) = cc in
+    let first : ◌≡◌ {A = Option Lexeme × List (List ℕ)} (Some (lexed w n), words_in o) (Some (lexed (front space t) (number_of (front space t))), words_in (back space t)) = cc in
     first ∙ ap next_token (sym (words_cut t))
 
 lines_rest : (o : Option (List ℕ)) → lines_of (unwrap_or o []) ≡ lines_in o
@@ -46,6 +48,16 @@ command_next (x ∷ xs) line rest o r h f b v e =
     let command : r ≡ command_of (front line_feed (x ∷ xs)) = e ∙ ap command_of f in
     (λ i. (Some (command i), lines i)) ∙ ap next_command (sym (lines_cut x xs))
 
-pub no_line : (t : List ℕ) → length t ≡ 0 → ◌≡◌ {A = Option Read × List (List ℕ)} (None, lines_of t) (next_command (lines_of t))
-no_line [] e = refl
-no_line (x ∷ xs) e = absurd (omega arith)
+-- an iterator over lists of which one goes with each item makes progress
+pub goes : {S A B : Type 0} (left : S → List (List ℕ)) (next : List (List ℕ) → Option B × List (List ℕ)) → ((ls : List (List ℕ)) → MatchOption (next ls).0 ⊤ (λ _. length (next ls).1 < length ls)) → (s t : S) (r : A) (b : B) → ◌≡◌ {A = Option B × List (List ℕ)} (Some b, left t) (next (left s)) → MakesProgress {S = S} {A = A} (λ _. ⊤) (item_count left) s (Some r) t
+goes {S} {A} {B} left next fewer s t r b e =
+    let less : length (left t) < length (left s) = subst (λ (p : Option B × List (List ℕ)). MatchOption p.0 ⊤ (λ _. length p.1 < length (left s))) (sym e) (fewer (left s)) in
+    record { on = λ f. (tt, f, less); keeps = tt; rests = λ f. tt }
+
+pub token_fewer : (ws : List (List ℕ)) → MatchOption (next_token ws).0 ⊤ (λ _. length (next_token ws).1 < length ws)
+token_fewer [] = tt
+token_fewer (w ∷ ws) = omega arith
+
+pub line_fewer : (ls : List (List ℕ)) → MatchOption (next_command ls).0 ⊤ (λ _. length (next_command ls).1 < length ls)
+line_fewer [] = tt
+line_fewer (l ∷ ls) = omega arith

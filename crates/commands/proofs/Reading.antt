@@ -1,28 +1,99 @@
--- Digits are read from the front. Assumes nothing.
-use Rattle.std.proofs.Common.{◌≡◌, ℕ, suc, ◌+◌, ◌-◌, ◌*◌, ◌^◌, ◌<◌, ◌≤◌, true, false, ◌&&◌, ltb, leb, List, ◌∷◌, length, get_or, drop, Some, None, Option, sym, ap, ◌∙◌, pow-suc, add-one, arith, drop-cons}
-use lib.Seq.{drop-length}
+-- Which words are numbers, as `parse` reads them. Assumes nothing.
+use Rattle.std.proofs.Common.{◌≡◌, ℕ, ◌+◌, ◌-◌, ◌*◌, ◌^◌, ◌<◌, ◌≤◌, Bool, true, false, cond, ◌&&◌, ltb, leb, List, [], ◌∷◌, length, Some, None, Ok, Err, Option, Result, MatchResult, Bor, sym, refl, ap, ◌∙◌, arith, rules}
 use Rattle.std.specs.Char.{is_ascii_digit}
+use Rattle.std.specs.List.{list_all}
+use Rattle.std.specs.Result.{OkIff, result_ok}
+use Rattle.std.specs.Str.{IsUtf8, IsAscii}
+use Rattle.std.specs.Str.Parse.{ParsesUnsigned}
 use Rattle.std.proofs.lemmas.Bool.Decides.{nat_tests}
 use Rattle.std.proofs.lemmas.Bool.{cond-true, cond-false}
+use Rattle.std.proofs.lemmas.Str.{IsUtf8-from_ascii}
+use Rattle.std.proofs.lemmas.Str.Ascii.{IsAscii-nil, IsAscii-cons}
+use Rattle.std.proofs.lemmas.Str.Parse.{IsNumeralModel, numerals_by_fold, parse_digits}
 use Rattle.commands.specs.Text.{value_from, at_most, most_number, number_of}
 
-module _ (w : List ℕ) (v i : ℕ) (o : Option ℕ) (so : value_from v (drop i w) ≡ o) where
-  -- the next byte
-  next : i < length w → value_from v (get_or w i 0 ∷ drop (suc i) w) ≡ o
-  next h = ap (value_from v) (sym (drop-cons w i 0 h)) ∙ so
+abbrev pub digits : List ℕ → Bool
+digits w = list_all is_ascii_digit w
 
-  pub digit_more : i < length w → is_ascii_digit (get_or w i 0) ≡ true → value_from (v * 10 + (get_or w i 0 - 48)) (drop (i + 1) w) ≡ o
-  digit_more h d = rw add-one (sym (cond-true _ _ _ d) ∙ next h)
+-- the value of digits that follow on a value
+abbrev read_on : ℕ → List ℕ → ℕ
+read_on v [] = v
+read_on v (b ∷ bs) = read_on (v * 10 + (b - 48)) bs
 
-  pub no_digit : i < length w → is_ascii_digit (get_or w i 0) ≡ false → None ≡ o
-  no_digit h d = sym (cond-false _ _ _ d) ∙ next h
+own : IsNumeralModel (λ w. digits w ≡ true) (read_on 0)
+own = numerals_by_fold _ (search rules) read_on (search rules)
 
-  pub digits_done : i ≡ length w → Some v ≡ o
-  digits_done e = ap (value_from v) (sym (ap (λ k. drop k w) e ∙ drop-length w)) ∙ so
+first_digit : (b : ℕ) (bs : List ℕ) → digits (b ∷ bs) ≡ true → (is_ascii_digit b ≡ true) × (digits bs ≡ true)
+first_digit b bs d = grind (arith, nat_tests)
 
-pub ten_more : (v d i : ℕ) → v < 10 ^ i → d < 10 → v * 10 + d < 10 ^ (i + 1)
-ten_more v d i h k = rw (add-one, pow-suc) (omega arith)
+-- the value of a word of digits, and of another
+value_is : (v : ℕ) (w : List ℕ) → value_from v w ≡ cond (digits w) (Some (read_on v w)) None
+value_is v [] = refl
+value_is v (b ∷ bs) = go (is_ascii_digit b) (value_is (v * 10 + (b - 48)) bs)
+  where
+    go : (e : Bool) → value_from (v * 10 + (b - 48)) bs ≡ cond (digits bs) (Some (read_on (v * 10 + (b - 48)) bs)) None → cond e (value_from (v * 10 + (b - 48)) bs) None ≡ cond (e && digits bs) (Some (read_on (v * 10 + (b - 48)) bs)) None
+    go true h = h
+    go false h = refl
 
--- a word of a length that a number may have
-pub number_is : (w : List ℕ) (o : Option ℕ) → 0 < length w → length w ≤ 10 → value_from 0 w ≡ o → number_of w ≡ at_most most_number o
-number_is w o h k e = let t : (ltb 0 (length w) && leb (length w) 10) ≡ true = grind (arith, nat_tests) in cond-true _ _ _ t ∙ ap (at_most most_number) e
+module _ (w : List ℕ) where
+  pub too_long : 10 < length w → None ≡ number_of w
+  too_long h = let t : (ltb 0 (length w) && leb (length w) 10) ≡ false = grind (arith, nat_tests) in sym (cond-false _ _ _ t)
+
+  pub no_digits : digits w ≡ false → None ≡ number_of w
+  no_digits d =
+      let none : value_from 0 w ≡ None = value_is 0 w ∙ cond-false _ _ _ d in
+      go (ltb 0 (length w) && leb (length w) 10) (value_from 0 w) none
+    where
+      go : (e : Bool) (o : Option ℕ) → o ≡ None → None ≡ cond e (at_most most_number o) None
+      go true None n = refl
+      go true (Some v) n = let z : ◌≡◌ {A = ℕ} 0 1 = cc in absurd (omega arith)
+      go false o n = refl
+
+  -- a word of digits that is not too long is what `parse` reads
+  pub parsed : {E : Type 0} (r : Result ℕ E) → ParsesUnsigned 32 10 w r → digits w ≡ true → length w ≤ 10 → result_ok r ≡ number_of w
+  parsed {E} r reads d short = go r (parse_digits own 32 w r reads d)
+    where
+      value : value_from 0 w ≡ Some (read_on 0 w)
+      value = value_is 0 w ∙ cond-true _ _ _ d
+
+      within : 0 < length w → at_most most_number (Some (read_on 0 w)) ≡ number_of w
+      within h =
+          let t : (ltb 0 (length w) && leb (length w) 10) ≡ true = grind (arith, nat_tests) in
+          sym (cond-true _ _ _ t ∙ ap (at_most most_number) value)
+
+      go : (r : Result ℕ E) → OkIff r ((0 < length w) × (read_on 0 w < 2 ^ 32)) (read_on 0 w) → result_ok r ≡ number_of w
+      go (Ok x) told =
+          let small : leb (read_on 0 w) 4294967295 ≡ true = let h = told.0.1 in grind (arith, nat_tests) in
+          ap Some told.1 ∙ sym (cond-true _ _ _ small) ∙ within told.0.0
+      go (Err e) told = none (ltb 0 (length w)) refl
+        where
+          none : (b : Bool) → ltb 0 (length w) ≡ b → None ≡ number_of w
+          none true h =
+              let some : 0 < length w = grind (arith, nat_tests) in
+              let large : leb (read_on 0 w) 4294967295 ≡ false = grind (arith, nat_tests, told) in
+              sym (cond-false _ _ _ large) ∙ within some
+          none false h = let t : (ltb 0 (length w) && leb (length w) 10) ≡ false = grind (arith, nat_tests) in sym (cond-false _ _ _ t)
+
+-- digits are ASCII
+pub digits_utf8 : (w : List ℕ) → digits w ≡ true → IsUtf8 w
+digits_utf8 w d = IsUtf8-from_ascii w (ascii w d)
+  where
+    ascii : (w : List ℕ) → digits w ≡ true → IsAscii w
+    ascii [] d = IsAscii-nil
+    ascii (b ∷ bs) d = let f = first_digit b bs d in let small : b < 128 = grind (arith, nat_tests) in IsAscii-cons b bs small (ascii bs f.1)
+
+-- what `from_utf8` answers of a word, as an option
+module _ {E : Type 0} (w : List ℕ) (Q : E → Type 0) (r : Result (Bor (List ℕ)) E) where
+  pub no_text : result_ok r ≡ None → MatchResult r (λ s. (s.now ≡ w) × IsUtf8 w) (λ e. ¬ (IsUtf8 w) × Q e) → ¬ (IsUtf8 w)
+  no_text none told = go r none told
+    where
+      go : (r : Result (Bor (List ℕ)) E) → result_ok r ≡ None → MatchResult r (λ s. (s.now ≡ w) × IsUtf8 w) (λ e. ¬ (IsUtf8 w) × Q e) → ¬ (IsUtf8 w)
+      go (Ok s) none told = let z : ◌≡◌ {A = ℕ} 0 1 = cc in absurd (omega arith)
+      go (Err e) none told = told.0
+
+  pub its_text : {s : Bor (List ℕ)} → result_ok r ≡ Some s → MatchResult r (λ s. (s.now ≡ w) × IsUtf8 w) (λ e. ¬ (IsUtf8 w) × Q e) → s.now ≡ w
+  its_text {s} some told = go r some told
+    where
+      go : (r : Result (Bor (List ℕ)) E) → result_ok r ≡ Some s → MatchResult r (λ s. (s.now ≡ w) × IsUtf8 w) (λ e. ¬ (IsUtf8 w) × Q e) → s.now ≡ w
+      go (Ok t) some told = let same : t ≡ s = cc in ap (λ (x : Bor (List ℕ)). x.now) (sym same) ∙ told.0
+      go (Err e) some told = let z : ◌≡◌ {A = ℕ} 0 1 = cc in absurd (omega arith)

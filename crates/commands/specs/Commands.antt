@@ -71,6 +71,11 @@ abbrev pub only : Command → List (List ℕ) → Read
 only c [] = Ok c
 only c (w ∷ ws) = Err fault.Rest
 
+-- what was read so far, and then nothing more
+abbrev pub then_only : Read → List (List ℕ) → Read
+then_only (Ok c) ws = only c ws
+then_only (Err f) ws = Err f
+
 abbrev pub following : Verb → List (List ℕ) → Read
 following verb.Marks ws = number most_length ws (λ l ws. number most_bay ws (λ n ws. only (Marks l n) ws))
 following verb.Rows ws = number most_length ws (λ l ws. number most_bay ws (λ n ws. only (Rows l n) ws))

@@ -2,8 +2,8 @@
 --
 --   word      a part of the line that is no number
 --   number    a part that is one
---   end       of the line: no part is left
 --
+-- Behind the last part there is no token.
 -- Assumes nothing.
 use Rattle.std.specs.Prelude.{ℕ, List, [], ◌∷◌, Some, None, Option}
 use Rattle.std.specs.Option.{option_map}
@@ -16,12 +16,14 @@ use Rattle.commands.specs.Text.{words_of, number_of}
 pub data Lexeme : Type 0 where
   Word : List ℕ → Lexeme
   Number : ℕ → Lexeme
-  End : Lexeme
 
 abbrev pub lexeme : Token → Lexeme
 lexeme (token.Word w) = Word w.now
 lexeme (token.Number n) = Number n
-lexeme token.End = End
+
+abbrev pub option_lexeme : Option Token → Option Lexeme
+option_lexeme None = None
+option_lexeme (Some t) = Some (lexeme t)
 
 abbrev pub words_in : Option (List ℕ) → List (List ℕ)
 words_in None = []
@@ -36,6 +38,6 @@ lexed w None = Word w
 lexed w (Some n) = Number n
 
 -- the next token, and the words that are left then
-abbrev pub next_token : List (List ℕ) → Lexeme × List (List ℕ)
-next_token [] = (End, [])
-next_token (w ∷ ws) = (lexed w (number_of w), ws)
+abbrev pub next_token : List (List ℕ) → Option Lexeme × List (List ℕ)
+next_token [] = (None, [])
+next_token (w ∷ ws) = (Some (lexed w (number_of w)), ws)

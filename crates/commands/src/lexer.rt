@@ -1,8 +1,9 @@
 // The lexer: it parts the text into lines and a line into tokens, which are parts of the text.
 ghost use Rattle.std.specs.Prelude.{◌≡◌};
+ghost use Rattle.std.specs.Iterator.{item_count};
 ghost use Rattle.std.specs.Option.{option_map};
 ghost use Rattle.commands.specs.Text.{front, back, words_of, number_of};
-ghost use Rattle.commands.specs.Tokens.{lexeme, words_left, next_token};
+ghost use Rattle.commands.specs.Tokens.{option_lexeme, words_left, next_token};
 
 /// The most digits that a number has.
 const MOST_DIGITS: usize = 10;
@@ -14,11 +15,9 @@ pub(crate) enum Token<'a> {
     Word(&'a [u8]),
     /// A word of 1 to 10 digits, below 2^32.
     Number(u32),
-    /// The end of the line.
-    End,
 }
 
-/// Gives a line's tokens from the left.
+/// Gives a line's tokens from the left. It is no `Split` of the library, whose closure each clause would have to name.
 #[derive(Drop)]
 pub(crate) struct Lexer<'a> {
     /// What is left of the line, from the start of a word; nothing behind the last word.
@@ -32,19 +31,21 @@ impl<'a> Lexer<'a> {
     {
         Lexer { rest: Some(line) }
     }
+}
 
-    /// The next token. At the end of the line it gives the end again and again.
-    pub(crate) fn token(&mut self) -> Token<'a>
-        ensures { (lexeme result, words_left self.new) ≡ next_token (words_left self.old) }
-    {
-        let Some(rest) = self.rest else {
-            return Token::End;
-        };
-        let (word, rest) = cut(rest, b' ');
+impl<'a> Iterator for Lexer<'a> {
+    type Item = Token<'a>;
+
+    ghost next_gives = { λ l t m. (option_lexeme t, words_left m) ≡ next_token (words_left l) };
+
+    ghost remaining = { item_count words_left };
+
+    fn next(&mut self) -> Option<Token<'a>> {
+        let (word, rest) = cut(self.rest?, b' ');
         self.rest = rest;
         match number(word) {
-            Some(value) => Token::Number(value),
-            None => Token::Word(word),
+            Some(value) => Some(Token::Number(value)),
+            None => Some(Token::Word(word)),
         }
     }
 }
@@ -54,30 +55,18 @@ pub(crate) fn cut(text: &[u8], at: u8) -> (&[u8], Option<&[u8]>)
     ensures front { result.0.now ≡ front at text.now }
     ensures back { option_map (λ x. x.now) result.1 ≡ back at text.now }
 {
-    for (i, byte) in text.iter().enumerate() {
-        if *byte == at {
-            return (&text[0..i], Some(&text[i + 1..]));
-        }
+    match text.iter().position(|byte| *byte == at) {
+        Some(place) => (&text[..place], Some(&text[place + 1..])),
+        None => (text, None),
     }
-    (text, None)
 }
 
-// The number that the word is.
+// The number that the word is. A sign is no digit.
 fn number(word: &[u8]) -> Option<u32>
     ensures { result ≡ number_of word.now }
 {
-    if word.is_empty() || word.len() > MOST_DIGITS {
+    if word.len() > MOST_DIGITS || !word.iter().all(|byte| byte.is_ascii_digit()) {
         return None;
     }
-    let mut value: u64 = 0;
-    for byte in word {
-        if !byte.is_ascii_digit() {
-            return None;
-        }
-        value = value * 10 + u64::from(*byte - b'0');
-    }
-    if value > u64::from(u32::MAX) {
-        return None;
-    }
-    Some(value as u32)
+    std::str::from_utf8(word).ok()?.parse().ok()
 }

@@ -9,7 +9,7 @@ mod lexer;
 mod parse;
 
 /// What a line of a schedule asks for. A *bay* is one of the dock's, by number.
-#[derive(Clone, Copy)]
+#[derive(Clone, Copy, Debug, PartialEq, Eq)]
 pub enum Command {
     /// Opens a dock of so many bays over a mark memory with so many slots.
     Marks(u32, Bay),
@@ -27,15 +27,15 @@ pub enum Command {
     Leave(Bay),
 }
 
-/// Why a line is no command.
-#[derive(Clone, Copy)]
+/// Why a line is no command, with the number by which it is printed.
+#[derive(Clone, Copy, Debug, PartialEq, Eq)]
 pub enum Fault {
     /// The first word is no command's.
-    Command,
+    Command = 1,
     /// A number is missing, is none, or is too large.
-    Number,
+    Number = 2,
     /// Something follows the last number.
-    Rest,
+    Rest = 3,
 }
 
 /// A schedule's text, read a line at a time.

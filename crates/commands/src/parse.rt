@@ -1,13 +1,15 @@
 // The command of a line.
 ghost use Rattle.std.specs.Prelude.{◌≡◌};
+ghost use Rattle.std.specs.Iterator.{item_count};
+ghost use Rattle.std.specs.Option.{ok_or};
 ghost use Rattle.commands.specs.Text.{lines_of};
 ghost use Rattle.commands.specs.Tokens.{words_left};
-ghost use Rattle.std.specs.Option.{ok_or};
-ghost use Rattle.commands.specs.Commands.{most_bay, verb_of, number_next, others, only, following, command_of, fault_number, lines_left, next_command};
+ghost use Rattle.commands.specs.Commands.{most_bay, verb_of, number_next, others, then_only, following, command_of, fault_number, lines_left, next_command};
 
 use crate::lexer::{Lexer, Token, cut};
 use crate::{Command, Fault, Schedule};
 use slot_memory::Bay;
+use std::str::FromStr;
 
 /// The most slots that a ring can be asked for.
 const MOST_LENGTH: u32 = 1024;
@@ -24,45 +26,51 @@ pub(crate) enum Verb {
     Leave,
 }
 
-// The verb that is spelled so.
-fn named(word: &str) -> Option<Verb>
-    ensures { result ≡ verb_of word.now }
-{
-    match word {
-        "marks" => Some(Verb::Marks),
-        "rows" => Some(Verb::Rows),
-        "put" => Some(Verb::Put),
-        "take" => Some(Verb::Take),
-        "step" => Some(Verb::Step),
-        "collect" => Some(Verb::Collect),
-        "leave" => Some(Verb::Leave),
-        _ => None,
+impl FromStr for Verb {
+    type Err = Fault;
+
+    ghost use Rattle.commands.specs.declared.Fault.TheVariants.{Command};
+
+    ghost from_str_gives = { λ word result. result ≡ ok_or (verb_of word) Command };
+
+    fn from_str(word: &str) -> Result<Verb, Fault> {
+        match word {
+            "marks" => Ok(Verb::Marks),
+            "rows" => Ok(Verb::Rows),
+            "put" => Ok(Verb::Put),
+            "take" => Ok(Verb::Take),
+            "step" => Ok(Verb::Step),
+            "collect" => Ok(Verb::Collect),
+            "leave" => Ok(Verb::Leave),
+            _ => Err(Fault::Command),
+        }
     }
 }
 
-// The verb that a word is. A word that is no UTF-8 is none.
-fn verb_of(word: &[u8]) -> Option<Verb>
-    ensures { result ≡ verb_of word.now }
+// The verb that a word is. A word that is no UTF-8 is none. It is matched as text, since a `match` on bytes is a test a byte.
+fn verb_of(word: &[u8]) -> Result<Verb, Fault>
+    ensures { result ≡ ok_or (verb_of word.now) Fault.Command }
 {
     match std::str::from_utf8(word) {
-        Ok(word) => named(word),
-        Err(_) => None,
+        Ok(word) => word.parse(),
+        Err(_) => Err(Fault::Command),
     }
 }
 
-impl<'a> Lexer<'a> {
+impl Lexer<'_> {
     // The next token, which has to be a number of at most this.
     fn number(&mut self, most: u32) -> Result<u32, Fault>
         ensures value { result ≡ ok_or (number_next most (words_left self.old)) Fault.Number }
         ensures rest { words_left self.new ≡ others (words_left self.old) }
     {
-        match self.token() {
-            Token::Number(value) if value <= most => Ok(value),
-            Token::Number(_) | Token::Word(_) | Token::End => Err(Fault::Number),
+        match self.next() {
+            Some(Token::Number(value)) if value <= most => Ok(value),
+            Some(Token::Number(_) | Token::Word(_)) | None => Err(Fault::Number),
         }
     }
 
-    // The next token, which has to be the number of a bay, or of bays.
+    // The next token, which has to be the number of a bay, or of bays: within `number`'s bound the cast loses nothing,
+    // and `try_from` would bring in a second bound.
     fn bay(&mut self) -> Result<Bay, Fault>
         ensures value { result ≡ ok_or (number_next most_bay (words_left self.old)) Fault.Number }
         ensures rest { words_left self.new ≡ others (words_left self.old) }
@@ -70,80 +78,47 @@ impl<'a> Lexer<'a> {
         Ok(self.number(u32::from(Bay::MAX))? as Bay)
     }
 
-    // The command, if nothing is left of the line.
-    fn end(&mut self, command: Command) -> Result<Command, Fault>
-        ensures { result ≡ only command (words_left self.old) }
-    {
-        match self.token() {
-            Token::End => Ok(command),
-            Token::Number(_) | Token::Word(_) => Err(Fault::Rest),
-        }
-    }
-
     // The command of a verb, with the numbers that follow it.
-    fn following(&mut self, verb: Verb) -> Result<Command, Fault>
-        ensures { result ≡ following verb (words_left self.old) }
+    fn command(&mut self, verb: Verb) -> Result<Command, Fault>
+        ensures { then_only result (words_left self.new) ≡ following verb (words_left self.old) }
     {
         match verb {
-            Verb::Marks => {
-                let length = self.number(MOST_LENGTH)?;
-                let bays = self.bay()?;
-                self.end(Command::Marks(length, bays))
-            }
-            Verb::Rows => {
-                let length = self.number(MOST_LENGTH)?;
-                let bays = self.bay()?;
-                self.end(Command::Rows(length, bays))
-            }
-            Verb::Put => {
-                let bay = self.bay()?;
-                let word = self.number(u32::MAX)?;
-                self.end(Command::Put(bay, word))
-            }
-            Verb::Take => {
-                let bay = self.bay()?;
-                self.end(Command::Take(bay))
-            }
-            Verb::Step => {
-                let bay = self.bay()?;
-                self.end(Command::Step(bay))
-            }
-            Verb::Collect => {
-                let bay = self.bay()?;
-                self.end(Command::Collect(bay))
-            }
-            Verb::Leave => {
-                let bay = self.bay()?;
-                self.end(Command::Leave(bay))
-            }
+            Verb::Marks => Ok(Command::Marks(self.number(MOST_LENGTH)?, self.bay()?)),
+            Verb::Rows => Ok(Command::Rows(self.number(MOST_LENGTH)?, self.bay()?)),
+            Verb::Put => Ok(Command::Put(self.bay()?, self.number(u32::MAX)?)),
+            Verb::Take => Ok(Command::Take(self.bay()?)),
+            Verb::Step => Ok(Command::Step(self.bay()?)),
+            Verb::Collect => Ok(Command::Collect(self.bay()?)),
+            Verb::Leave => Ok(Command::Leave(self.bay()?)),
         }
     }
 }
 
-// The command of a line.
-fn command_of(line: &[u8]) -> Result<Command, Fault>
-    ensures { result ≡ command_of line.now }
-{
-    let mut lexer = Lexer::over(line);
-    match lexer.token() {
-        Token::Word(word) => match verb_of(word) {
-            Some(verb) => lexer.following(verb),
-            None => Err(Fault::Command),
-        },
-        Token::Number(_) | Token::End => Err(Fault::Command),
+impl TryFrom<&[u8]> for Command {
+    type Error = Fault;
+
+    ghost try_from_gives = { λ line result. result ≡ command_of line.now };
+
+    // The command of a line.
+    fn try_from(line: &[u8]) -> Result<Command, Fault> {
+        let mut lexer = Lexer::over(line);
+        let Some(Token::Word(word)) = lexer.next() else {
+            return Err(Fault::Command);
+        };
+        let command = lexer.command(verb_of(word)?)?;
+        match lexer.next() {
+            None => Ok(command),
+            Some(_) => Err(Fault::Rest),
+        }
     }
 }
 
-impl Fault {
-    /// The number by which the fault is printed.
-    pub fn number(self) -> u8
-        ensures { result ≡ fault_number self }
-    {
-        match self {
-            Fault::Command => 1,
-            Fault::Number => 2,
-            Fault::Rest => 3,
-        }
+impl From<Fault> for u8 {
+    ghost from_gives = { λ fault number. number ≡ fault_number fault };
+
+    // The number by which the fault is printed.
+    fn from(fault: Fault) -> u8 {
+        fault as u8
     }
 }
 
@@ -154,16 +129,22 @@ impl<'a> Schedule<'a> {
     {
         Schedule { text }
     }
+}
 
-    /// The command of the next line, or its fault; nothing behind the last line.
-    pub fn next(&mut self) -> Option<Result<Command, Fault>>
-        ensures { (result, lines_left self.new) ≡ next_command (lines_left self.old) }
-    {
+/// Gives the command of each line, or its fault.
+impl Iterator for Schedule<'_> {
+    type Item = Result<Command, Fault>;
+
+    ghost next_gives = { λ s read t. (read, lines_left t) ≡ next_command (lines_left s) };
+
+    ghost remaining = { item_count lines_left };
+
+    fn next(&mut self) -> Option<Result<Command, Fault>> {
         if self.text.is_empty() {
             return None;
         }
         let (line, rest) = cut(self.text, b'\n');
         self.text = rest.unwrap_or(&[]);
-        Some(command_of(line))
+        Some(Command::try_from(line))
     }
 }

@@ -1,4 +1,5 @@
 pub mod Calling
 pub mod Moving
+pub mod Ending
 pub mod Lines
 pub mod Opening

@@ -1,11 +1,14 @@
 -- Lines, read and printed one after the other. Assumes nothing.
-use Rattle.std.proofs.Common.{◌≡◌, ℕ, ◌+◌, ◌≤◌, Bool, true, false, cond, eqb, List, [], ◌∷◌, ◌++◌, length, Some, None, Option, sym, refl, ap, ◌∙◌, subst, append_assoc, arith}
+use Rattle.std.proofs.Common.{◌≡◌, ℕ, ◌+◌, ◌≤◌, Bool, true, false, cond, eqb, List, [], ◌∷◌, ◌++◌, length, Some, Option, sym, refl, ap, ◌∙◌, subst, append_assoc, string_bytes, arith}
 use Rattle.commands.specs.Text.{lines_of, glued, line_feed}
-use Rattle.commands.specs.Commands.{Read, command_of, next_command}
+use Rattle.commands.specs.Commands.{Read, command_of, lines_left, next_command}
 use Rattle.schedule.specs.declared.Response.{Response}
 use Rattle.schedule.specs.Desks.{Desk, heeded}
-use Rattle.schedule.specs.Output.{Stage, NotOpen, At, Driven, DrivenAt, after, responds, line_text, printed}
-use Rattle.schedule.specs.Sessions.{Session, Stands, Turned, Through, Opens}
+use Rattle.schedule.specs.Output.{Stage, At, Driven, DrivenAt, after, responds, line_text, printed}
+use Rattle.schedule.specs.Sessions.{Stands, Turned, Through, Passes}
+use Rattle.schedule.specs.declared.session.Session.{Session}
+use Rattle.commands.specs.declared.Schedule.{Schedule}
+use Rattle.schedule.specs.declared.transcript.Transcript.{Transcript}
 
 -- which line was read
 
@@ -15,13 +18,9 @@ line_read (l ∷ ls) rest r e =
     let read = ap (λ (p : Option Read × List (List ℕ)). p.0) e in
     (l, ap (λ x. l ∷ x) (sym (ap (λ (p : Option Read × List (List ℕ)). p.1) e)), cc)
 
-pub all_read : (ls rest : List (List ℕ)) → ◌≡◌ {A = Option Read × List (List ℕ)} (None, rest) (next_command ls) → (ls ≡ []) × (rest ≡ [])
-all_read [] rest e = (refl, ap (λ (p : Option Read × List (List ℕ)). p.1) e)
-all_read (l ∷ ls) rest e = let z : ◌≡◌ {A = ℕ} 0 1 = cc (ap (λ (p : Option Read × List (List ℕ)). p.0) e) in absurd (omega arith)
-
 module _ {o : List ℕ} {i : ℕ} {s : Stage} {ls : List (List ℕ)} where
   pub nothing_read : Through o i s ls o i s ls
-  nothing_read = record { output = refl; law = λ k. k; numbers = refl; fewer = omega arith }
+  nothing_read = record { output = refl; law = λ k. k; fewer = omega arith }
 
   -- one line more
   pub one_line : {p q : List ℕ} {j m : ℕ} {t : Stage} {l : List ℕ} {rest : List (List ℕ)} → Through o i s ls p j t (l ∷ rest) → DrivenAt t → (r : Response) → r ≡ (after t l).0 → q ≡ p ++ line_text j r → m ≡ j + 1 → Through o i s ls q m (after t l).1 rest
@@ -32,51 +31,71 @@ module _ {o : List ℕ} {i : ℕ} {s : Stage} {ls : List (List ℕ)} where
             ∙ append_assoc p (line_text j (after t l).0) (printed (j + 1) (after t l).1 rest)
             ∙ so.output;
         law = λ k. so.law (run, k);
-        numbers = let n = so.numbers in omega arith;
         fewer = let n = so.fewer in omega arith;
       }
 
-  -- one stretch of lines after another
-  pub joined : {p q : List ℕ} {j k : ℕ} {t u : Stage} {ms ns : List (List ℕ)} → Through o i s ls p j t ms → Through p j t ms q k u ns → Through o i s ls q k u ns
-  joined a b = record { output = b.output ∙ a.output; law = λ k. a.law (b.law k); numbers = b.numbers ∙ a.numbers; fewer = omega (arith, a.fewer, b.fewer) }
+-- a line was read
+pub record WasRead (x : Transcript) (r : Read) (y : Transcript) : Type 0 where
+  pub line : List ℕ
+  pub lines : lines_left x.schedule ≡ line ∷ lines_left y.schedule
+  pub is : r ≡ command_of line
+  pub out : y.out ≡ x.out
+  pub number : y.number ≡ x.number + 1
 
--- where a session stands once some lines were read
-pub record Reaches (d : Desk) (o : List ℕ) (i : ℕ) (ls : List (List ℕ)) (t : Session) (p : List ℕ) (j : ℕ) (ms : List (List ℕ)) : Type 0 where
+pub was_read : (x : Transcript) (r : Read) (y : Transcript) → ◌≡◌ {A = Option Read × List (List ℕ)} (Some r, lines_left y.schedule) (next_command (lines_left x.schedule)) → y.out ≡ x.out → y.number ≡ x.number + 1 → WasRead x r y
+was_read x r y e out number =
+    let read = line_read (lines_left x.schedule) (lines_left y.schedule) r e in
+    record { line = read.0; lines = read.1; is = read.2; out = out; number = number }
+
+-- the response to the line that was read last was printed
+pub record Printed (x : Transcript) (r : Response) (y : Transcript) : Type 0 where
+  pub lines : y.schedule ≡ x.schedule
+  pub out : string_bytes y.out ≡ string_bytes x.out ++ line_text x.number r
+  pub number : y.number ≡ x.number
+
+-- what comes after a line was printed comes after what it was to be
+pub once_printed : {x : Transcript} {r : Response} {y : Transcript} → Printed x r y → (t : Stage) {p : List ℕ} {j : ℕ} {u : Stage} {ms : List (List ℕ)} → Through (string_bytes y.out) (y.number + 1) t (lines_left y.schedule) p j u ms → Through (string_bytes x.out ++ line_text x.number r) (x.number + 1) t (lines_left x.schedule) p j u ms
+once_printed {x} {r} {y} so t {p} {j} {u} {ms} through =
+    subst (λ o. Through o (x.number + 1) t (lines_left x.schedule) p j u ms) so.out
+    (subst (λ (s : Schedule). Through (string_bytes y.out) (x.number + 1) t (lines_left s) p j u ms) so.lines (subst (λ n. Through (string_bytes y.out) (n + 1) t (lines_left y.schedule) p j u ms) so.number through))
+
+-- a line was read, at a stage at which it leads to this response and stage
+pub one_read : {x : Transcript} {r : Read} {y : Transcript} {o : List ℕ} {i : ℕ} {s : Stage} {ls : List (List ℕ)} (t : Stage) → WasRead x r y → DrivenAt t → Through o i s ls (string_bytes x.out) (x.number + 1) t (lines_left x.schedule) → Through o i s ls (string_bytes y.out ++ line_text y.number (responds t r).0) (y.number + 1) (responds t r).1 (lines_left y.schedule)
+one_read {x} {r} {y} {o} {i} {s} {ls} t read run so =
+    let a = responds t r in
+    let more = one_line (subst (λ ms. Through o i s ls (string_bytes x.out) (x.number + 1) t ms) read.lines so) run a.0 (ap (λ r. (responds t r).0) read.is) (λ k. string_bytes (read.out k) ++ line_text (read.number k) a.0) (ap (λ n. n + 1) read.number) in
+    subst (λ (c : Read). Through o i s ls (string_bytes y.out ++ line_text y.number a.0) (y.number + 1) (responds t c).1 (lines_left y.schedule)) (sym read.is) more
+
+-- and its response was printed
+pub then_printed : {y : Transcript} {r : Response} {z : Transcript} {o : List ℕ} {i : ℕ} {s : Stage} {ls : List (List ℕ)} (t : Stage) → Printed y r z → Through o i s ls (string_bytes y.out ++ line_text y.number r) (y.number + 1) t (lines_left y.schedule) → Through o i s ls (string_bytes z.out) (z.number + 1) t (lines_left z.schedule)
+then_printed {y} {r} {z} {o} {i} {s} {ls} t so through =
+    subst (λ p. Through o i s ls p (z.number + 1) t (lines_left z.schedule)) (sym so.out)
+    (subst (λ (c : Schedule). Through o i s ls (string_bytes y.out ++ line_text y.number r) (z.number + 1) t (lines_left c)) (sym so.lines) (subst (λ n. Through o i s ls (string_bytes y.out ++ line_text y.number r) (n + 1) t (lines_left y.schedule)) (sym so.number) through))
+
+-- where a session and a transcript stand once some lines were answered
+pub record Reaches (d : Desk) (x : Transcript) (t : Session) (y : Transcript) : Type 0 where
   pub desk : Desk
   pub stands : Stands desk t
   pub driven : Driven desk
-  pub through : Through o i (At d) ls p j (At desk) ms
+  pub through : Passes (At d) x (At desk) y
 
-abbrev pub Going : Session → List ℕ → ℕ → List (List ℕ) → Session → List ℕ → ℕ → List (List ℕ) → Type 0
-Going s o i ls t p j ms = (d : Desk) → Stands d s → Driven d → Reaches d o i ls t p j ms
-
-pub not_gone : (s : Session) (o : List ℕ) (i : ℕ) (ls : List (List ℕ)) → Going s o i ls s o i ls
-not_gone s o i ls d stands driven = record { desk = d; stands = stands; driven = driven; through = nothing_read }
+abbrev pub Going : Session → Transcript → Session → Transcript → Type 0
+Going s x t y = (d : Desk) → Stands d s → Driven d → Reaches d x t y
 
 -- one line more
-pub goes_on : {s : Session} {o : List ℕ} {i : ℕ} {ls : List (List ℕ)} {t u : Session} {p q : List ℕ} {j m : ℕ} {ms rest : List (List ℕ)} (l : List ℕ) (read : Read) (r : Response) → Going s o i ls t p j ms → ms ≡ l ∷ rest → read ≡ command_of l → Turned (λ d. heeded d read) t r u → q ≡ p ++ line_text j r → m ≡ j + 1 → Going s o i ls u q m rest
-goes_on {s} {o} {i} {ls} {t} {u} {p} {q} {j} {m} {ms} {rest} l read r going is same turned out number d stands driven =
+pub goes_on : (s : Session) (x : Transcript) {t u : Session} {y z w : Transcript} {read : Read} {r : Response} → Going s x t y → WasRead y read z → Turned (λ d. heeded d read) t r u → Printed z r w → Going s x u w
+goes_on s x {t} {u} {y} {z} {w} {read} {r} going line turned printed d stands driven =
     let here = going d stands driven in
-    let more = one_line (subst (λ x. Through o i (At d) ls p j (At here.desk) x) is here.through) here.driven r (turned.response here.desk here.stands ∙ ap (λ x. (heeded here.desk x).0) same) out number in
+    let more = one_read (At here.desk) line here.driven here.through in
+    let after = (heeded here.desk read).1 in
     record {
-      desk = (heeded here.desk (command_of l)).1;
-      stands = subst (λ x. Stands (heeded here.desk x).1 u) same (turned.moved.stands here.desk here.stands);
-      driven = subst (λ x. Driven (heeded here.desk x).1) same (turned.moved.driven here.desk here.stands here.driven);
-      through = more;
+      desk = after;
+      stands = turned.moved.stands here.desk here.stands;
+      driven = turned.moved.driven here.desk here.stands here.driven;
+      through =
+          then_printed (At after) printed
+          (subst (λ r. Through (string_bytes x.out) (x.number + 1) (At d) (lines_left x.schedule) (string_bytes z.out ++ line_text z.number r) (z.number + 1) (At after) (lines_left z.schedule)) (sym (turned.response here.desk here.stands)) more);
     }
-
--- no line is left
-pub comes_to_end : {s : Session} {o : List ℕ} {i : ℕ} {ls : List (List ℕ)} {t : Session} {p : List ℕ} {j : ℕ} {ms : List (List ℕ)} → Going s o i ls t p j ms → ms ≡ [] → (d : Desk) → Stands d s → Driven d → Through o i (At d) ls p j NotOpen []
-comes_to_end {s} {o} {i} {ls} {t} {p} {j} {ms} going none d stands driven =
-    let here = going d stands driven in
-    let last = subst (λ x. Through o i (At d) ls p j (At here.desk) x) none here.through in
-    record { output = last.output; law = λ _. last.law here.driven; numbers = last.numbers; fewer = last.fewer }
-
--- a line before the dock is open, and what it leads to
-pub shut-line : {o : List ℕ} {i : ℕ} {ls : List (List ℕ)} {p q : List ℕ} {j m : ℕ} {before rest ms : List (List ℕ)} (l : List ℕ) (read : Read) → Through o i NotOpen ls p j NotOpen before → before ≡ l ∷ rest → read ≡ command_of l → Opens (responds NotOpen read) p j rest q m ms → Through o i NotOpen ls q m NotOpen ms
-shut-line {o} {i} {ls} {p} {q} {j} {m} {before} {rest} {ms} l read so is same opens =
-    joined (one_line (subst (λ x. Through o i NotOpen ls p j NotOpen x) is so) tt (after NotOpen l).0 refl refl refl)
-    (subst (λ x. Opens (responds NotOpen x) p j rest q m ms) same opens)
 
 -- a text has no more lines than bytes
 

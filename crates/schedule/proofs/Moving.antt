@@ -1,6 +1,5 @@
 -- A session that makes a call moves as its desk does. Assumes nothing.
-use Rattle.std.proofs.Common.{◌≡◌, ℕ, Bool, true, false, cond, List, ◌∷◌, get_or, Ok, Err, vec_items, Result, Vec, sym, refl, ap, ◌∙◌, subst, MatchResult}
-use Rattle.std.specs.declared.alloc.Global.{Global}
+use Rattle.std.proofs.Common.{◌≡◌, ℕ, true, List, ◌∷◌, get_or, Ok, Err, vec_items, Result, sym, refl, ap, ◌∙◌, subst, MatchResult}
 use Rattle.slot_memory.specs.Rules.{Clear, Done}
 use Rattle.board.specs.declared.Board.{Board}
 use Rattle.board.specs.Kinds.{Kind, kind_of, most, memory, Plays}
@@ -12,14 +11,15 @@ use Rattle.dock_rules.specs.History.{Moment}
 use Rattle.dock_rules.specs.Runs.{Start, Reached, Lawful, GoesOn, carrying, moment_of}
 use Rattle.dock_rules.proofs.Contracts.{continues}
 use Rattle.dock.specs.declared.Dock.{Dock}
-use Rattle.dock.specs.declared.Book as held
-use Rattle.dock.specs.Answered.{stood, step_answer}
+use Rattle.dock.specs.Answered.{open_answer, stood, step_answer}
 use Rattle.dock.specs.Does.{Does, Carries, DoesAlone, DoesOver, CarriesAlone, CarriesOver, StartsAlone, Ran, book_of, world}
 use Rattle.schedule.specs.declared.Response.{Response}
-use Rattle.schedule.specs.Responses.{response_to, is_taken, is_refused}
-use Rattle.schedule.specs.Desks.{Desk, last_of, make, response, noted, starts, finishes, settled}
+use Rattle.schedule.specs.Responses.{response_to, is_refused}
+use Rattle.schedule.specs.Desks.{Desk, make, response, noted, starts, waived, settled}
 use Rattle.schedule.specs.Output.{Driven}
-use Rattle.schedule.specs.Sessions.{Session, game_of, Stands, Made, Moved, Turned}
+use Rattle.schedule.specs.Sessions.{game_of, Stands, Made, Moved, Turned}
+use Rattle.schedule.specs.declared.session.Session.{Session}
+use Rattle.std.proofs.lemmas.Bool.{cond-true}
 use Rattle.schedule.proofs.Calling.{Dry, dry, turned_away_lem, ran, cleared, most-after}
 
 module _ (last : List ℕ) (start : Start) (h : List (Moment ℕ)) where
@@ -62,20 +62,16 @@ then {F} f g =
       driven = λ d at run. g.driven (F d) (f.stands d at) (f.driven d at run);
     }
 
--- by a test whose outcome is known at every desk that the session may stand at
-pub if_so : {F : Desk → Desk} (G : Desk → Desk) {s t : Session} (b : Desk → Bool) → ((d : Desk) → Stands d s → b d ≡ true) → Moved F s t → Moved (λ d. cond (b d) (F d) (G d)) s t
-if_so {F} G {s} {t} b holds f =
+-- by what is the same at every desk that the session may stand at
+pub alike : {F G : Desk → Desk} {s t : Session} → ((d : Desk) → Stands d s → F d ≡ G d) → Moved F s t → Moved G s t
+alike {F} {G} {s} {t} same f =
     record {
-      stands = λ d at. subst (λ x. Stands (cond x (F d) (G d)) t) (sym (holds d at)) (f.stands d at);
-      driven = λ d at run. subst (λ x. Driven (cond x (F d) (G d))) (sym (holds d at)) (f.driven d at run);
+      stands = λ d at. subst (λ x. Stands x t) (same d at) (f.stands d at);
+      driven = λ d at run. subst Driven (same d at) (f.driven d at run);
     }
 
-pub if_not : (F : Desk → Desk) {G : Desk → Desk} {s t : Session} (b : Desk → Bool) → ((d : Desk) → Stands d s → b d ≡ false) → Moved G s t → Moved (λ d. cond (b d) (F d) (G d)) s t
-if_not F {G} {s} {t} b none g =
-    record {
-      stands = λ d at. subst (λ x. Stands (cond x (F d) (G d)) t) (sym (none d at)) (g.stands d at);
-      driven = λ d at run. subst (λ x. Driven (cond x (F d) (G d))) (sym (none d at)) (g.driven d at run);
-    }
+pub stays : {s : Session} → Moved (λ d. d) s s
+stays = record { stands = λ d at. at; driven = λ d at run. run }
 
 -- a call that did as it is to do, between two sessions that stand before it and after it
 module _ (s t : Session) (c : Call ℕ) (a : Answer) {w v : World ℕ} (before : w ≡ (game_of s).world) (after : v ≡ (game_of t).world) (law : Carries (most (game_of s).kind) w c a v) (last : t.last ≡ s.last) where
@@ -119,44 +115,14 @@ module _ {s m : Session} {c : Call ℕ} {a : Answer} (made : Made s c a m) where
         };
       }
 
-  -- a collect or an abandon
-  pub turns_free : (b n : ℕ) {r : Response} → r ≡ response_to a (get_or (game_of m).world.trays b 0) → is_taken a ≡ false → Turned (λ d. finishes b n (make d c)) s r m
-  turns_free b n says free =
-      record {
-        response = responds b says;
-        moved = if_not (λ d. settled (make d c).1 b n) (λ d. is_taken (make d c).0) (λ d stands. ap is_taken (sym (answers made d stands)) ∙ free) (moves made);
-      }
-
-  -- and one that leaves a receipt, which is settled
-  pub turns_taken : {t : Session} (b n : ℕ) {r : Response} → r ≡ response_to a (get_or (game_of m).world.trays b 0) → is_taken a ≡ true → Moved (λ d. settled d b n) m t → Turned (λ d. finishes b n (make d c)) s r t
-  turns_taken b n says taken settles =
-      record {
-        response = responds b says;
-        moved = if_so (λ d. (make d c).1) (λ d. is_taken (make d c).0) (λ d stands. ap is_taken (sym (answers made d stands)) ∙ taken) (then (moves made) settles);
-      }
-
-  -- an enter that was granted
-  pub settles_entered : (b n : ℕ) → c ≡ Enter b n → is_refused a ≡ false → Moved (λ d. settled d b n) s m
-  settles_entered b n is granted =
-      subst (λ e. Moved (λ d. cond (is_refused (make d e).0) (make (make d e).1 (Waive b n)).1 (make d e).1) s m) is
-      (if_not (λ d. (make (make d c).1 (Waive b n)).1) (λ d. is_refused (make d c).0) (λ d stands. ap is_refused (sym (answers made d stands)) ∙ granted) (moves made))
-
-  -- and one that was refused, and a waive after it
+  -- an enter that was refused, and a waive after it
   pub settles_waived : {t : Session} {x : Answer} (b n : ℕ) → c ≡ Enter b n → is_refused a ≡ true → Made m (Waive b n) x t → Moved (λ d. settled d b n) s t
-  settles_waived {t} b n is refused waives =
-      subst (λ e. Moved (λ d. cond (is_refused (make d e).0) (make (make d e).1 (Waive b n)).1 (make d e).1) s t) is
-      (if_so (λ d. (make d c).1) (λ d. is_refused (make d c).0) (λ d stands. ap is_refused (sym (answers made d stands)) ∙ refused) (then (moves made) (moves waives)))
-
--- where a number is read off the desk
-pub at_known : {s t : Session} {r : Response} (G : ℕ → Desk → Response × Desk) (f : Desk → ℕ) (n : ℕ) → ((d : Desk) → Stands d s → f d ≡ n) → Turned (G n) s r t → Turned (λ d. G (f d) d) s r t
-at_known {s} {t} {r} G f n is turned =
-    record {
-      response = λ d stands. turned.response d stands ∙ ap (λ k. (G k d).0) (sym (is d stands));
-      moved = record {
-        stands = λ d stands. subst (λ k. Stands (G k d).1 t) (sym (is d stands)) (turned.moved.stands d stands);
-        driven = λ d stands run. subst (λ k. Driven (G k d).1) (sym (is d stands)) (turned.moved.driven d stands run);
-      };
-    }
+  settles_waived b n is refused waives =
+      alike
+      (λ d stands.
+      let so : is_refused (make d c).0 ≡ true = ap is_refused (sym (answers made d stands)) ∙ refused in
+      sym (ap (λ e. waived b n (make d e)) (sym is) ∙ cond-true _ _ _ so))
+      (then (moves made) (moves waives))
 
 module _ (s t : Session) (b : ℕ) where
   -- what a dock's step tells, handed these trays and leaving those
@@ -189,10 +155,6 @@ module _ (s t : Session) (b : ℕ) where
     pub made-step : {r : Result Stepped Refusal} {x y : List ℕ} → x ≡ vec_items s.trays → y ≡ vec_items t.trays → Stepping r x y → Made s (Step b) (step_answer r) t
     made-step {r} {x} {y} ex ey facts = own_trays_lem r (subst (λ x. Stepping r x (vec_items t.trays)) ex (subst (λ y. Stepping r x y) ey facts))
 
--- a dock and its caller, of whom only the serials changed
-pub same_game : (d : Dock (Board ℕ) ℕ memory) {t u : Vec ℕ Global} {b c : held.Book ℕ} → t ≡ u → b ≡ c → ◌≡◌ {A = Game ℕ} (record { kind = kind_of d.memory; world = world memory d (vec_items t) (book_of b) }) (record { kind = kind_of d.memory; world = world memory d (vec_items u) (book_of c) })
-same_game d trays book = λ i. record { kind = kind_of d.memory; world = world memory d (vec_items (trays i)) (book_of (book i)) }
-
 -- the session with its dock after a call
 abbrev pub with_dock : Session → Dock (Board ℕ) ℕ memory → Session
 with_dock s e = record { dock = e; trays = s.trays; book = s.book; last = s.last }
@@ -206,7 +168,7 @@ made_alone s e c a is-dry does law kept =
 
 -- an open, with the session's own trays and book
 module _ (s : Session) (e : Dock (Board ℕ) ℕ memory) (n life base : ℕ) where
-  pub made_open : StartsAlone memory s.dock n life base Opened e → DoesAlone memory s.dock (Open n life base) Opened e → Plays s.dock.memory (Clear base) Done e.memory → Made s (Open n life base) Opened (with_dock s e)
+  made_open : StartsAlone memory s.dock n life base Opened e → DoesAlone memory s.dock (Open n life base) Opened e → Plays s.dock.memory (Clear base) Done e.memory → Made s (Open n life base) Opened (with_dock s e)
   made_open law does plays =
       record {
         is = cleared s.dock e (book_of s.book) (does (vec_items s.trays) (book_of s.book)) plays;
@@ -214,7 +176,7 @@ module _ (s : Session) (e : Dock (Board ℕ) ℕ memory) (n life base : ℕ) whe
         last = refl;
       }
 
-  pub made_refused : (q : Refusal) → StartsAlone memory s.dock n life base (Refused q) e → DoesAlone memory s.dock (Open n life base) (Refused q) e → e.memory ≡ s.dock.memory → Made s (Open n life base) (Refused q) (with_dock s e)
+  made_refused : (q : Refusal) → StartsAlone memory s.dock n life base (Refused q) e → DoesAlone memory s.dock (Open n life base) (Refused q) e → e.memory ≡ s.dock.memory → Made s (Open n life base) (Refused q) (with_dock s e)
   made_refused q law does kept =
       let t = vec_items s.trays in
       let k = book_of s.book in
@@ -224,16 +186,6 @@ module _ (s : Session) (e : Dock (Board ℕ) ℕ memory) (n life base : ℕ) whe
         last = refl;
       }
 
--- a collect or an abandon, with the serial of the bay's last call
-module _ (s m : Session) (call : ℕ → Call ℕ) {a : Answer} (b n : ℕ) (last : n ≡ get_or s.last b 0) (made : Made s (call n) a m) {r : Response} (says : r ≡ response_to a (get_or (game_of m).world.trays b 0)) where
-  abbrev To : ℕ → Desk → Response × Desk
-  To n d = finishes b n (make d (call n))
-
-  known : (d : Desk) → Stands d s → last_of d b ≡ n
-  known d stands = ap (λ l. get_or l b 0) stands.last ∙ sym last
-
-  pub finishes-free : is_taken a ≡ false → Turned (λ d. To (last_of d b) d) s r m
-  finishes-free free = at_known To (λ d. last_of d b) n known (turns_free made b n says free)
-
-  pub finishes-taken : {t : Session} → is_taken a ≡ true → Moved (λ d. settled d b n) m t → Turned (λ d. To (last_of d b) d) s r t
-  finishes-taken taken settles = at_known To (λ d. last_of d b) n known (turns_taken made b n says taken settles)
+  pub made_opening : (r : Result (Unit {0}) Refusal) → StartsAlone memory s.dock n life base (open_answer r) e → DoesAlone memory s.dock (Open n life base) (open_answer r) e → MatchResult r (λ _. Plays s.dock.memory (Clear base) Done e.memory) (λ _. e.memory ≡ s.dock.memory) → Made s (Open n life base) (open_answer r) (with_dock s e)
+  made_opening (Ok u) law does exact = made_open law does exact
+  made_opening (Err q) law does exact = made_refused q law does exact

@@ -1,4 +1,5 @@
 pub mod Responses
 pub mod Desks
+pub mod Ended
 pub mod Output
 pub mod Sessions

@@ -1,32 +1,22 @@
--- The desk at which a session stands, and how its methods move it.
+-- The desk at which a session stands, how its methods move it, and what becomes of a transcript.
 --
 --   F     what is to happen at a desk
 --
 -- Assumes nothing.
-use Rattle.std.specs.Prelude.{◌≡◌, ℕ, ◌+◌, ◌≤◌, List, [], ◌++◌, length, vec_items, Vec}
-use Rattle.std.specs.declared.alloc.Global.{Global}
-use Rattle.board.specs.declared.Board.{Board}
+use Rattle.std.specs.Prelude.{◌≡◌, ℕ, ◌+◌, ◌≤◌, List, ◌++◌, length, Ok, Err, Result, vec_items, string_bytes}
 use Rattle.board.specs.Kinds.{kind_of, most, memory}
 use Rattle.board.specs.Game.{Game, called}
+use Rattle.commands.specs.Commands.{lines_left}
+use Rattle.dock_rules.specs.declared.Refusal.{Refusal}
 use Rattle.dock_rules.specs.Calls.{Call, Answer}
 use Rattle.dock_rules.specs.Runs.{GoesOn}
-use Rattle.dock.specs.declared.Dock.{Dock}
-use Rattle.dock.specs.declared.Book as held
 use Rattle.dock.specs.Does.{world, book_of}
 use Rattle.schedule.specs.declared.Response.{Response}
-use Rattle.schedule.specs.declared.caller.Caller.{Caller}
+use Rattle.schedule.specs.declared.Response.TheVariants.{Refused}
+use Rattle.schedule.specs.declared.session.Session.{Session}
+use Rattle.schedule.specs.declared.transcript.Transcript.{Transcript}
 use Rattle.schedule.specs.Desks.{Desk}
 use Rattle.schedule.specs.Output.{Stage, NotOpen, At, Driven, line_text, printed, Lawfully}
-
--- a dock, and what its caller keeps
-pub record Session : Type 0 where
-  pub dock : Dock (Board ℕ) ℕ memory
-  pub trays : Vec ℕ Global
-  pub book : held.Book ℕ
-  pub last : List ℕ
-
-abbrev pub both : Dock (Board ℕ) ℕ memory → Caller → Session
-both d k = record { dock = d; trays = k.trays; book = k.book; last = k.last }
 
 abbrev pub game_of : Session → Game ℕ
 game_of s =
@@ -52,6 +42,11 @@ pub record Turned (F : Desk → Response × Desk) (s : Session) (r : Response) (
   pub response : (d : Desk) → Stands d s → r ≡ (F d).0
   pub moved : Moved (λ d. (F d).1) s t
 
+-- how a command that may be refused is answered
+abbrev pub said : Result Response Refusal → Response
+said (Ok r) = r
+said (Err q) = Refused q
+
 -- lines that were read and printed: what was printed, and what is printed of those that are left, is as it was to be;
 -- and where the run is lawful after each of those that are left, it is so after each
 --
@@ -60,13 +55,16 @@ pub record Turned (F : Desk → Response × Desk) (s : Session) (r : Response) (
 pub record Through (o : List ℕ) (i : ℕ) (s : Stage) (ls : List (List ℕ)) (p : List ℕ) (j : ℕ) (t : Stage) (ms : List (List ℕ)) : Type 0 where
   pub output : p ++ printed j t ms ≡ o ++ printed i s ls
   pub law : Lawfully t ms → Lawfully s ls
-  pub numbers : j + length ms ≡ i + length ls
   pub fewer : length ms ≤ length ls
 
--- the lines of a session that starts at the desk, to the last
-abbrev pub Ends : Session → List ℕ → ℕ → List (List ℕ) → List ℕ → ℕ → Type 0
-Ends s o i ls p j = (d : Desk) → Stands d s → Driven d → Through o i (At d) ls p j NotOpen []
+-- the same of a transcript, before at one stage and after at another
+abbrev pub Passes : Stage → Transcript → Stage → Transcript → Type 0
+Passes s x t y = Through (string_bytes x.out) (x.number + 1) s (lines_left x.schedule) (string_bytes y.out) (y.number + 1) t (lines_left y.schedule)
 
--- the line of an open, which leads to this response and stage, and the lines behind it
-abbrev pub Opens : Response × Stage → List ℕ → ℕ → List (List ℕ) → List ℕ → ℕ → List (List ℕ) → Type 0
-Opens t o i ls p j ms = Through (o ++ line_text i t.0) (i + 1) t.1 ls p j NotOpen ms
+-- the lines of a session that starts at the desk, to the last
+abbrev pub Ends : Session → Transcript → Transcript → Type 0
+Ends s x y = (d : Desk) → Stands d s → Driven d → Passes (At d) x NotOpen y
+
+-- the line of an open that was just read, which leads to this response and stage, and the lines behind it
+abbrev pub Opens : Response × Stage → Transcript → Transcript → Type 0
+Opens a x y = Through (string_bytes x.out ++ line_text x.number a.0) (x.number + 1) a.1 (lines_left x.schedule) (string_bytes y.out) (y.number + 1) NotOpen (lines_left y.schedule)

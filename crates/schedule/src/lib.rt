@@ -8,8 +8,9 @@ use commands::Fault;
 use dock_rules::{Line, Refusal};
 use std::fmt;
 
-mod caller;
 mod run;
+mod session;
+mod transcript;
 
 pub use run::run_text;
 
@@ -19,8 +20,9 @@ const LIFETIME: u32 = 1000;
 /// Where both indices begin.
 const BASE: u32 = 0;
 
-/// What a line of a schedule is answered.
-#[derive(Clone, Copy)]
+/// What a line of a schedule is answered. It names the ends of a call itself: with an `Outcome`, TAKEN would lack its
+/// element, and UNTOUCHED is none.
+#[derive(Clone, Copy, Debug, PartialEq, Eq)]
 pub enum Response {
     /// The dock is open.
     Open,
@@ -47,22 +49,16 @@ impl fmt::Display for Response {
 
     fn fmt<W: fmt::Write>(&self, f: &mut fmt::Formatter<W>) -> fmt::Result {
         match *self {
-            Response::Open => f.write_str("open"),
+            Response::Open => write!(f, "open"),
             Response::Call(serial) => write!(f, "call {serial}"),
-            Response::Stands(line) => f.write_str(line.text()),
-            Response::Full => f.write_str("FULL"),
-            Response::Stored => f.write_str("STORED"),
-            Response::Empty => f.write_str("EMPTY"),
+            Response::Stands(line) => write!(f, "{line}"),
+            Response::Full => write!(f, "FULL"),
+            Response::Stored => write!(f, "STORED"),
+            Response::Empty => write!(f, "EMPTY"),
             Response::Taken(word) => write!(f, "TAKEN {word}"),
-            Response::Untouched => f.write_str("UNTOUCHED"),
-            Response::Refused(why) => {
-                let number = why.number();
-                write!(f, "refused {number}")
-            }
-            Response::Fault(fault) => {
-                let number = fault.number();
-                write!(f, "fault {number}")
-            }
+            Response::Untouched => write!(f, "UNTOUCHED"),
+            Response::Refused(why) => write!(f, "refused {}", why.number()),
+            Response::Fault(fault) => write!(f, "fault {}", u8::from(fault)),
         }
     }
 }

@@ -1,14 +1,13 @@
 // A text's commands, obeyed one after the other, and what is printed of them.
-ghost use Rattle.std.specs.Prelude.{◌≡◌, ◌+◌, ◌^◌, ◌<◌, [], ◌++◌, length, replicate, IfOk, string_bytes, OnOk};
-ghost use Rattle.commands.specs.Commands.{lines_left};
-ghost use Rattle.schedule.specs.Output.{NotOpen, opened_on, opening, responds, line_text, output_of, LawfulText};
-ghost use Rattle.schedule.specs.Sessions.{both, game_of, Opens, Ends};
+ghost use Rattle.std.specs.Prelude.{◌≡◌, IfOk, string_bytes, OnOk};
+ghost use Rattle.schedule.specs.Output.{NotOpen, opening, responds, output_of, LawfulText};
+ghost use Rattle.schedule.specs.Sessions.{Opens, Ends};
 
-use crate::caller::Caller;
-use crate::{BASE, LIFETIME, Response};
+use crate::Response;
+use crate::session::Session;
+use crate::transcript::Transcript;
 use board::{Board, BoardKind};
-use commands::{Command, Fault, Schedule};
-use dock::{Book, Dock};
+use commands::{Command, Fault};
 use dock_rules::Refusal;
 use slot_memory::Bay;
 use std::alloc::{AllocError, Global};
@@ -16,122 +15,49 @@ use std::alloc::{AllocError, Global};
 /// The longest text.
 const MOST_TEXT: usize = 4096;
 
-/// What is printed so far.
-#[derive(Drop)]
-struct Printer {
-    out: String,
-    /// The number of the next line.
-    number: u32,
-}
+/// How many elements a book has room for.
+const BOOK_LENGTH: usize = 64;
 
-impl Printer {
-    // Prints a line.
-    fn print(&mut self, response: Response) -> Result<(), AllocError>
-        requires { self.old.number + 1 < 2 ^ 32 }
-        ensures out { OnOk result (string_bytes self.new.out ≡ string_bytes self.old.out ++ line_text self.old.number response) }
-        ensures number { OnOk result (self.new.number ≡ self.old.number + 1) }
+impl Transcript<'_> {
+    // Answers the lines that are left on an open dock.
+    fn heed_all(&mut self, session: &mut Session<'_>) -> Result<(), AllocError>
+        ensures { OnOk result (Ends session.old self.old self.new) }
     {
-        let number = self.number;
-        if writeln!(self.out, "{number} {response}").is_err() {
-            return Err(AllocError);
+        // No `for`, which would hold the transcript while the body prints to it.
+        while let Some(read) = self.read() {
+            self.print(session.heed(read))?;
         }
-        self.number = number + 1;
         Ok(())
     }
-}
 
-// Answers the lines that are left on an open dock.
-fn heed_all(
-    dock: &mut Dock<Board<'_, u32>>,
-    caller: &mut Caller<'_>,
-    schedule: &mut Schedule<'_>,
-    printer: &mut Printer,
-) -> Result<(), AllocError>
-    requires { printer.old.number + length (lines_left schedule.old) < 2 ^ 32 }
-    ensures lines { OnOk result (lines_left schedule.new ≡ []) }
-    ensures through { OnOk result (Ends (both dock.old caller.old) (string_bytes printer.old.out) printer.old.number (lines_left schedule.old) (string_bytes printer.new.out) printer.new.number) }
-{
-    while let Some(read) = schedule.next() {
-        let response = caller.heed(dock, read);
-        printer.print(response)?;
-    }
-    Ok(())
-}
-
-// Opens the dock and, if that is granted, answers the lines that are left.
-fn open(
-    dock: &mut Dock<Board<'_, u32>>,
-    caller: &mut Caller<'_>,
-    bays: Bay,
-    schedule: &mut Schedule<'_>,
-    printer: &mut Printer,
-) -> Result<(), AllocError>
-    requires trays { length caller.old.trays.items ≡ bays }
-    requires last { caller.old.last ≡ replicate 16 0 }
-    requires numbers { printer.old.number + 1 + length (lines_left schedule.old) < 2 ^ 32 }
-    ensures { OnOk result (Opens (opened_on (game_of (both dock.old caller.old)) bays) (string_bytes printer.old.out) printer.old.number (lines_left schedule.old) (string_bytes printer.new.out) printer.new.number (lines_left schedule.new)) }
-{
-    match dock.open(bays, LIFETIME, BASE) {
-        Ok(()) => {
-            printer.print(Response::Open)?;
-            heed_all(dock, caller, schedule, printer)
+    // Opens a dock over a fresh board and, if that is granted, answers the lines that are left.
+    fn open(&mut self, kind: BoardKind, slots: u32, bays: Bay) -> Result<(), AllocError>
+        ensures { OnOk result (Opens (opening kind slots bays) self.old self.new) }
+    {
+        let mut lent = vec![in self.heap; None; slots as usize]?;
+        let trays = vec![in self.heap; 0; bays as usize]?;
+        let mut row = [0; BOOK_LENGTH];
+        let board = Board::new(kind, lent.as_mut_slice());
+        let mut session = Session::new(board, trays, &mut row);
+        match session.open(bays) {
+            Ok(()) => {
+                self.print(Response::Open)?;
+                self.heed_all(&mut session)
+            }
+            Err(why) => self.print(Response::Refused(why)),
         }
-        Err(why) => printer.print(Response::Refused(why)),
     }
-}
 
-// Opens a new dock over a fresh board.
-fn open_board(
-    heap: Global,
-    kind: BoardKind,
-    slots: u32,
-    bays: Bay,
-    schedule: &mut Schedule<'_>,
-    printer: &mut Printer,
-) -> Result<(), AllocError>
-    requires { printer.old.number + 1 + length (lines_left schedule.old) < 2 ^ 32 }
-    ensures { OnOk result (Opens (opening kind slots bays) (string_bytes printer.old.out) printer.old.number (lines_left schedule.old) (string_bytes printer.new.out) printer.new.number (lines_left schedule.new)) }
-{
-    let mut lent = vec![in heap; None; slots as usize]?;
-    let trays = vec![in heap; 0u32; bays as usize]?;
-    let mut row = [0u32; 64];
-    let mut caller = Caller {
-        trays,
-        book: Book {
-            row: &mut row,
-            entered: 0,
-        },
-        last: [0; 16],
-    };
-    let mut dock = Dock::new(Board::new(kind, lent.as_mut_slice()));
-    open(&mut dock, &mut caller, bays, schedule, printer)
-}
-
-// A line before the dock is open, and where it opens one the lines behind it.
-fn heed_shut(
-    heap: Global,
-    read: Result<Command, Fault>,
-    schedule: &mut Schedule<'_>,
-    printer: &mut Printer,
-) -> Result<(), AllocError>
-    requires { printer.old.number + 1 + length (lines_left schedule.old) < 2 ^ 32 }
-    ensures { OnOk result (Opens (responds NotOpen read) (string_bytes printer.old.out) printer.old.number (lines_left schedule.old) (string_bytes printer.new.out) printer.new.number (lines_left schedule.new)) }
-{
-    match read {
-        Ok(command) => match command {
-            Command::Marks(slots, bays) => {
-                open_board(heap, BoardKind::Marks, slots, bays, schedule, printer)
-            }
-            Command::Rows(slots, bays) => {
-                open_board(heap, BoardKind::Rows, slots, bays, schedule, printer)
-            }
-            Command::Put(_, _)
-            | Command::Take(_)
-            | Command::Step(_)
-            | Command::Collect(_)
-            | Command::Leave(_) => printer.print(Response::Refused(Refusal::Shut)),
-        },
-        Err(fault) => printer.print(Response::Fault(fault)),
+    // Answers a line before the dock is open, and where it opens one the lines behind it.
+    fn heed_shut(&mut self, read: Result<Command, Fault>) -> Result<(), AllocError>
+        ensures { OnOk result (Opens (responds NotOpen read) self.old self.new) }
+    {
+        match read {
+            Ok(Command::Marks(slots, bays)) => self.open(BoardKind::Marks, slots, bays),
+            Ok(Command::Rows(slots, bays)) => self.open(BoardKind::Rows, slots, bays),
+            Ok(_) => self.print(Response::Refused(Refusal::Shut)),
+            Err(fault) => self.print(Response::Fault(fault)),
+        }
     }
 }
 
@@ -144,14 +70,9 @@ pub fn run_text(heap: Global, text: &[u8]) -> Result<String, AllocError>
     if text.len() > MOST_TEXT {
         return String::from_str(heap, "too long\n");
     }
-    let mut schedule = Schedule::new(text);
-    let mut printer = Printer {
-        out: String::new(heap),
-        number: 1,
-    };
-    while let Some(read) = schedule.next() {
-        heed_shut(heap, read, &mut schedule, &mut printer)?;
+    let mut transcript = Transcript::new(heap, text);
+    while let Some(read) = transcript.read() {
+        transcript.heed_shut(read)?;
     }
-    let Printer { out, number: _ } = printer;
-    Ok(out)
+    Ok(transcript.finish())
 }

@@ -1,28 +1,29 @@
-use Rattle.std.proofs.Common.{◌≡◌, ◌<◌, Some, None, sym, ◌∙◌, arith, rules}
-use Rattle.std.proofs.lemmas.Bool.Decides.{nat_tests}
-use Rattle.commands.specs.Text.{at_most, most_number}
-use Rattle.commands.proofs.Reading.{digit_more, no_digit, digits_done, ten_more, number_is}
+use Rattle.std.proofs.Common.{sym, ◌∙◌, rules, arith}
+use borrow.Author.Tests.{tests}
+use Rattle.std.specs.Char.{is_ascii_digit}
+use Rattle.std.proofs.lemmas.Iterator.{YieldsList-from_slice}
+use Rattle.std.proofs.lemmas.Iterator.Search.{all_from_yields_List}
+use Rattle.commands.proofs.Reading.{too_long, no_digits, parsed, digits_utf8, no_text, its_text}
 use Rattle.commands.proofs.lexer.number.Goals as goal
+use Rattle.commands.proofs.lexer.number.Goals.{then-word-gt-MOST_DIGITS-via-then-word-gt-MOST_DIGITS, then-word-gt-MOST_DIGITS-via-else-word-gt-MOST_DIGITS+then-not-all}
 
-pub returns-then-not-is_ascii_digit : goal.returns-then-not-is_ascii_digit
-returns-then-not-is_ascii_digit c =
-    let none = no_digit c.args.word.now c.loop-byte.value c.loop-byte.byte-index _ c.loop-byte.invariant.0 c.loop-byte-test.true (search rules) in
-    sym (number_is c.args.word.now None (search rules) (search rules) (sym none))
+pub returns-then-word-gt-MOST_DIGITS : goal.returns-then-word-gt-MOST_DIGITS
+returns-then-word-gt-MOST_DIGITS c =
+    elim c.then-word-gt-MOST_DIGITS.branch [
+      | then-word-gt-MOST_DIGITS-via-then-word-gt-MOST_DIGITS w ↦ too_long c.args.word.now (omega (arith, w.if-word-gt-MOST_DIGITS.true))
+      | then-word-gt-MOST_DIGITS-via-else-word-gt-MOST_DIGITS+then-not-all w ↦
+          let all = all_from_yields_List is_ascii_digit _ _ w.all.result w.all.ensures.ran (YieldsList-from_slice c.args.word.now cc) (λ x b q k. search (rules, tests)) in
+          no_digits c.args.word.now (sym all ∙ w.if-not-all.true)
+    ]
 
-pub loop-byte-preserved : goal.loop-byte-preserved
-loop-byte-preserved c =
-    let more = digit_more c.args.word.now c.loop-byte.value c.loop-byte.byte-index _ c.loop-byte.invariant.0 c.loop-byte-test.true (search rules) in
-    let small : c.from.result < 10 = omega (arith, c.if-not-is_ascii_digit.ensures.cases) in
-    (cc, ten_more c.loop-byte.value c.from.result c.loop-byte.byte-index c.loop-byte.invariant.1 small)
-
-pub returns-then-value-from : goal.returns-then-value-from
-returns-then-value-from c =
-    let all = digits_done c.args.word.now c.loop-byte.value c.loop-byte.byte-index _ c.loop-byte.invariant.0 (omega arith) in
-    let over : None ≡ at_most most_number (Some c.loop-byte.value) = grind (arith, nat_tests) in
-    over ∙ sym (number_is c.args.word.now _ (search rules) (search rules) (sym all))
+pub returns-in_err-ok : goal.returns-in_err-ok
+returns-in_err-ok c =
+    let all = all_from_yields_List is_ascii_digit _ _ c.all.result c.all.ensures.ran (YieldsList-from_slice c.args.word.now cc) (λ x b q k. search (rules, tests)) in
+    absurd (no_text _ _ c.from_utf8.result (sym c.ok.ensures.value ∙ c.in_err-ok.was) c.from_utf8.ensures.cases (digits_utf8 c.args.word.now (sym all ∙ c.if-not-all.false)))
 
 pub returns : goal.returns
 returns c =
-    let all = digits_done c.args.word.now c.loop-byte.value c.loop-byte.byte-index _ c.loop-byte.invariant.0 (omega arith) in
-    let within : Some c.loop-byte.value ≡ at_most most_number (Some c.loop-byte.value) = grind (arith, nat_tests) in
-    within ∙ sym (number_is c.args.word.now _ (search rules) (search rules) (sym all))
+    let all = all_from_yields_List is_ascii_digit _ _ c.all.result c.all.ensures.ran (YieldsList-from_slice c.args.word.now cc) (λ x b q k. search (rules, tests)) in
+    let same = its_text _ _ c.from_utf8.result (sym c.ok.ensures.value ∙ c.in_ok-ok.was) c.from_utf8.ensures.cases in
+    c.ok-2.ensures.value
+    ∙ parsed c.args.word.now c.parse.result (rw same at c.parse.ensures.value.0) (sym all ∙ c.if-not-all.false) (omega arith)
