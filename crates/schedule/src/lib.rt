@@ -57,7 +57,7 @@ impl fmt::Display for Response {
             Response::Empty => write!(f, "EMPTY"),
             Response::Taken(word) => write!(f, "TAKEN {word}"),
             Response::Untouched => write!(f, "UNTOUCHED"),
-            Response::Refused(why) => write!(f, "refused {}", why.number()),
+            Response::Refused(why) => write!(f, "refused {}", u8::from(why)),
             Response::Fault(fault) => write!(f, "fault {}", u8::from(fault)),
         }
     }
