@@ -1,5 +1,5 @@
 -- What a caller is answered, in the words of the rules. Assumes nothing.
-use Rattle.std.specs.Prelude.{◌≡◌, ℕ, ◌<◌, true, Ok, Err, Result, ◌≢◌}
+use Rattle.std.specs.Prelude.{◌≡◌, ℕ, ◌<◌, true, Some, None, Option, Ok, Err, Result, IfSome, IfOk, IfErr, OnErr, ◌≢◌}
 use Rattle.dock_rules.specs.declared.Outcome.TheVariants.{Full, Stored, Empty, Taken}
 use Rattle.dock_rules.specs.declared.Abandoned.TheVariants as away
 use Rattle.dock_rules.specs.declared.BayRecord.TheVariants.{Owed}
@@ -64,42 +64,39 @@ Stays d e = (x : Receipt) → Out d x → Out e x
 abbrev pub StaysBut : ℕ → DockState → DockState → Type 0
 StaysBut b d e = (x : Receipt) → (x.bay ≢ b) → Out d x → Out e x
 
--- a receipt that is handed out is for this bay and serial
+-- the receipt that is handed out
+
+abbrev pub collected_receipt : Collected → Option Receipt
+collected_receipt collected.Full = None
+collected_receipt collected.Stored = None
+collected_receipt collected.Empty = None
+collected_receipt (collected.Taken x) = Some x
+
+abbrev pub left_receipt : Left → Option Receipt
+left_receipt left.Untouched = None
+left_receipt left.Stored = None
+left_receipt (left.Taken x) = Some x
+
+-- is for this bay and serial
 
 abbrev pub CollectedFor : ℕ → ℕ → Result Collected Refusal → Type 0
-CollectedFor b s (Ok collected.Full) = Unit {0}
-CollectedFor b s (Ok collected.Stored) = Unit {0}
-CollectedFor b s (Ok collected.Empty) = Unit {0}
-CollectedFor b s (Ok (collected.Taken x)) = x ≡ record { bay = b; serial = s }
-CollectedFor b s (Err r) = Unit {0}
+CollectedFor b s r = IfOk r (λ c. IfSome (collected_receipt c) (λ x. x ≡ record { bay = b; serial = s }))
 
 abbrev pub LeftFor : ℕ → ℕ → Result Left Refusal → Type 0
-LeftFor b s (Ok left.Untouched) = Unit {0}
-LeftFor b s (Ok left.Stored) = Unit {0}
-LeftFor b s (Ok (left.Taken x)) = x ≡ record { bay = b; serial = s }
-LeftFor b s (Err r) = Unit {0}
+LeftFor b s r = IfOk r (λ l. IfSome (left_receipt l) (λ x. x ≡ record { bay = b; serial = s }))
+
+-- and is out at the dock
+
+abbrev pub CollectedOut : DockState → Result Collected Refusal → Type 0
+CollectedOut d r = IfOk r (λ c. IfSome (collected_receipt c) (Out d))
+
+abbrev pub LeftOut : DockState → Result Left Refusal → Type 0
+LeftOut d r = IfOk r (λ l. IfSome (left_receipt l) (Out d))
 
 -- a refused receipt is given back
 abbrev pub GivenBack : Receipt → Result (Unit {0}) (Refusal × Receipt) → Type 0
-GivenBack x (Ok u) = Unit {0}
-GivenBack x (Err e) = e.1 ≡ x
-
--- a receipt that is handed out is out at the dock
-
-abbrev pub CollectedOut : DockState → Result Collected Refusal → Type 0
-CollectedOut d (Ok collected.Full) = Unit {0}
-CollectedOut d (Ok collected.Stored) = Unit {0}
-CollectedOut d (Ok collected.Empty) = Unit {0}
-CollectedOut d (Ok (collected.Taken x)) = Out d x
-CollectedOut d (Err r) = Unit {0}
-
-abbrev pub LeftOut : DockState → Result Left Refusal → Type 0
-LeftOut d (Ok left.Untouched) = Unit {0}
-LeftOut d (Ok left.Stored) = Unit {0}
-LeftOut d (Ok (left.Taken x)) = Out d x
-LeftOut d (Err r) = Unit {0}
+GivenBack x r = IfErr r (λ e. e.1 ≡ x)
 
 -- where a receipt is refused the dock is as it was
 abbrev pub RefusedLeaves : DockState → Result (Unit {0}) (Refusal × Receipt) → DockState → Type 0
-RefusedLeaves d (Ok u) e = Unit {0}
-RefusedLeaves d (Err r) e = e ≡ d
+RefusedLeaves d r e = OnErr r (e ≡ d)

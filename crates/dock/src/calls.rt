@@ -289,12 +289,12 @@ impl<M: SlotMemory> Dock<M> {
         }
     }
 
-    // The bay's receipt of that serial is out.
-    fn check_owed(&self, bay: Bay, serial: u32) -> Result<(), Refusal>
-        ensures { let d = self.now.state in Checks (no_bay d bay ∷ no_receipt d bay serial ∷ []) (λ _. (bay < d.bays) × (record_of d bay ≡ BayRecord.Owed serial)) result }
+    // The bay of the receipt holds it.
+    fn check_owed(&self, receipt: &Receipt) -> Result<(), Refusal>
+        ensures { let d = self.now.state in let x = receipt.now in Checks (no_bay d x.bay ∷ no_receipt d x.bay x.serial ∷ []) (λ _. (x.bay < d.bays) × (record_of d x.bay ≡ BayRecord.Owed x.serial)) result }
     {
-        match self.record(bay)? {
-            BayRecord::Owed(owed) if owed == serial => Ok(()),
+        match self.record(receipt.bay)? {
+            BayRecord::Owed(serial) if serial == receipt.serial => Ok(()),
             _ => Err(Refusal::Serial),
         }
     }
@@ -309,7 +309,7 @@ impl<M: SlotMemory> Dock<M> {
         ensures { let d = self.now.state in let x = receipt.now in Checks (shut d ∷ other_trays d (length trays.now) ∷ no_bay d x.bay ∷ no_receipt d x.bay x.serial ∷ full book.now ∷ []) (λ _. Out d x × (length trays.now ≡ d.bays) × (book.now.entered < length book.now.row.now)) result }
     {
         self.check_trays(trays)?;
-        self.check_owed(receipt.bay, receipt.serial)?;
+        self.check_owed(receipt)?;
         if book.entered < book.row.len() {
             Ok(())
         } else {
@@ -322,7 +322,7 @@ impl<M: SlotMemory> Dock<M> {
         ensures { let d = self.now.state in let x = receipt.now in Checks (shut d ∷ no_bay d x.bay ∷ no_receipt d x.bay x.serial ∷ []) (λ _. Out d x) result }
     {
         self.check_open()?;
-        self.check_owed(receipt.bay, receipt.serial)
+        self.check_owed(receipt)
     }
 }
 

@@ -24,6 +24,7 @@ pub(crate) fn run<M: SlotMemory>(
 {
     let length = memory.length();
     let slot = slot_at(call.index, length);
+    // One arm for each line, with its ways out row by row, to be compared with the figure.
     match call.line {
         Line::E5 => {
             call.index = memory.read(Index::Tail);
