@@ -1,13 +1,48 @@
 -- The receipt that a caller has in hand. Assumes nothing.
-use Rattle.std.specs.Prelude.{◌≡◌, ℕ, Some, None, Option}
+use Rattle.std.specs.Prelude.{◌≡◌, ℕ, Some, None, Option, Ok, Err, Result}
+use Rattle.std.specs.Coded.{Unit-prop}
+use Rattle.std.proofs.Props.{props}
 use Rattle.dock_rules.specs.declared.DockState.{DockState}
+use Rattle.dock_rules.specs.declared.Refusal.{Refusal}
 use Rattle.dock.specs.declared.Receipt.{Receipt}
-use Rattle.dock.specs.Answered.{Out}
+use Rattle.dock.specs.declared.Collected.{Collected}
+use Rattle.dock.specs.declared.Collected.TheVariants as collected
+use Rattle.dock.specs.declared.Left.{Left}
+use Rattle.dock.specs.declared.Left.TheVariants as left
+use Rattle.dock.specs.Answered.{Out, Stays}
+
+-- the receipt that a collect hands out
+abbrev pub receipt_of_collect : Result Collected Refusal → Option Receipt
+receipt_of_collect (Ok collected.Full) = None
+receipt_of_collect (Ok collected.Stored) = None
+receipt_of_collect (Ok collected.Empty) = None
+receipt_of_collect (Ok (collected.Taken x)) = Some x
+receipt_of_collect (Err r) = None
+
+-- an abandon
+abbrev pub receipt_of_abandon : Result Left Refusal → Option Receipt
+receipt_of_abandon (Ok left.Untouched) = None
+receipt_of_abandon (Ok left.Stored) = None
+receipt_of_abandon (Ok (left.Taken x)) = Some x
+receipt_of_abandon (Err r) = None
+
+-- and the one that an enter or a waive gives back
+abbrev pub receipt_of_spend : Result (Unit {0}) (Refusal × Receipt) → Option Receipt
+receipt_of_spend (Ok u) = None
+receipt_of_spend (Err e) = Some e.1
 
 -- it is out at the dock
 abbrev pub InHand : DockState → Option Receipt → Type 0
 InHand d None = Unit {0}
 InHand d (Some x) = Out d x
+
+-- and of that there is one proof at most
+Out-prop : (d : DockState) (x : Receipt) → IsProp (Out d x)
+Out-prop d x = Prim.hlevel props
+
+pub InHand-prop : (d : DockState) (h : Option Receipt) → IsProp (InHand d h)
+InHand-prop d None = Unit-prop
+InHand-prop d (Some x) = Out-prop d x
 
 -- it is for this bay and serial, and is out at the dock
 pub record Handed (d : DockState) (b s : ℕ) (x : Receipt) : Type 0 where
@@ -40,3 +75,10 @@ Spent h d e = (x : Receipt) → Apart h x → Out d x → Out e x
 abbrev pub Parted : Option Receipt → Option Receipt → Type 0
 Parted None c = Unit {0}
 Parted (Some x) c = Apart c x
+
+-- what is left by a call that closes the call of this bay and serial: every receipt that was out still is, and the one that
+-- came, if any, is the call's, is out, and is of a bay of which none was out
+pub record Closes (d : DockState) (b s : ℕ) (came : Option Receipt) (e : DockState) : Type 0 where
+  pub stays : Stays d e
+  pub out : HandedOver e b s came
+  pub fresh : New d came

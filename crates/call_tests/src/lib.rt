@@ -3,12 +3,14 @@
 #![tactic(auto)]
 
 #[cfg(test)]
-mod hand;
+mod bench;
 #[cfg(test)]
-mod harness;
+mod elements;
 #[cfg(test)]
 mod judge;
 #[cfg(test)]
-mod tests;
+mod session;
 #[cfg(test)]
-mod whole;
+mod table;
+#[cfg(test)]
+mod tests;

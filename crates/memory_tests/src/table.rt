@@ -1,9 +1,12 @@
 // What a table is made of, and how it is run.
+use mark_memory::MarkMemory;
+use row_memory::RowMemory;
 use slot_memory::{Bay, Index, SlotMemory, Stored};
 use std::fmt::Debug;
 use std::process::Abort;
 
-/// One operation, and the reply that is due.
+/// One operation, and the reply that is due. It is data and no closure, since one table is run over both
+/// memories, and a closure would take one of them alone.
 #[derive(Clone, Copy)]
 pub(crate) enum Step<E: Copy> {
     Clear(u32),
@@ -15,37 +18,88 @@ pub(crate) enum Step<E: Copy> {
     Store(Bay, Index, u32, Stored),
 }
 
-fn take<M: SlotMemory>(rt: &impl Abort, memory: &mut M, i: usize, step: Step<M::Element>)
-where
-    M::Element: PartialEq + Debug,
-{
-    match step {
-        Step::Clear(base) => memory.clear(base),
-        Step::Read(index, due) => assert_eq!(rt; memory.read(index), due, "step {i}"),
-        Step::Slot(bay, slot, due) => {
-            assert_eq!(rt; memory.mark_slot(bay, slot), due, "step {i}")
+/// Where a test stands, for the message of a reply that is another.
+#[derive(Drop)]
+struct Judge<'a, R: Abort> {
+    rt: &'a R,
+    elements: &'static str,
+    memory: &'static str,
+    step: usize,
+}
+
+impl<R: Abort> Judge<'_, R> {
+    // The test ends here unless the two are equal.
+    fn same<T: Copy + PartialEq + Debug>(&self, got: T, due: T) {
+        let Judge {
+            elements,
+            memory,
+            step,
+            ..
+        } = self;
+        assert_eq!(self.rt;
+            got,
+            due,
+            "on {elements}, over the {memory} memory, step {step}"
+        );
+    }
+
+    fn take<M: SlotMemory>(&self, memory: &mut M, step: Step<M::Element>)
+    where
+        M::Element: PartialEq + Debug,
+    {
+        match step {
+            Step::Clear(base) => memory.clear(base),
+            Step::Read(index, due) => self.same(memory.read(index), due),
+            Step::Slot(bay, slot, due) => self.same(memory.mark_slot(bay, slot), due),
+            Step::Index(bay, index, due) => self.same(memory.mark_index(bay, index), due),
+            Step::Fill(bay, slot, element, due) => {
+                self.same(memory.fill_slot(bay, slot, element), due)
+            }
+            Step::Empty(bay, slot, due) => self.same(memory.empty_slot(bay, slot), due),
+            Step::Store(bay, index, number, due) => {
+                self.same(memory.store_index(bay, index, number), due)
+            }
         }
-        Step::Index(bay, index, due) => {
-            assert_eq!(rt; memory.mark_index(bay, index), due, "step {i}")
-        }
-        Step::Fill(bay, slot, element, due) => {
-            assert_eq!(rt; memory.fill_slot(bay, slot, element), due, "step {i}")
-        }
-        Step::Empty(bay, slot, due) => {
-            assert_eq!(rt; memory.empty_slot(bay, slot), due, "step {i}")
-        }
-        Step::Store(bay, index, number, due) => {
-            assert_eq!(rt; memory.store_index(bay, index, number), due, "step {i}")
+    }
+
+    // Takes the steps in their order.
+    fn run<M: SlotMemory>(&mut self, memory: &mut M, steps: &[Step<M::Element>])
+    where
+        M::Element: PartialEq + Debug,
+    {
+        for (i, step) in steps.iter().enumerate() {
+            self.step = i;
+            self.take(memory, *step);
         }
     }
 }
 
-/// Takes the steps in their order, and names the first whose reply is another.
-pub(crate) fn run<M: SlotMemory>(rt: &impl Abort, memory: &mut M, steps: &[Step<M::Element>])
-where
-    M::Element: PartialEq + Debug,
-{
-    for (i, step) in steps.iter().enumerate() {
-        take(rt, memory, i, *step);
-    }
+/// Takes the first steps over a mark memory, then the others over a row memory that is lent the same
+/// slots. The first whose reply is another is named in the message.
+pub(crate) fn over_each<E: Copy + PartialEq + Debug>(
+    rt: &impl Abort,
+    elements: &'static str,
+    slots: &mut [Option<E>],
+    over_marks: &[Step<E>],
+    over_rows: &[Step<E>],
+) {
+    let mut judge = Judge {
+        rt,
+        elements,
+        memory: "mark",
+        step: 0,
+    };
+    judge.run(&mut MarkMemory::new(slots), over_marks);
+    judge.memory = "row";
+    judge.run(&mut RowMemory::new(slots), over_rows);
+}
+
+/// Takes the same steps over either memory.
+pub(crate) fn over_both<E: Copy + PartialEq + Debug>(
+    rt: &impl Abort,
+    elements: &'static str,
+    slots: &mut [Option<E>],
+    steps: &[Step<E>],
+) {
+    over_each(rt, elements, slots, steps, steps)
 }

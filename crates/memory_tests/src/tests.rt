@@ -1,17 +1,17 @@
 // The tables.
+ghost use Rattle.std.specs.Prelude.{◌<◌};
+
 use crate::table::Step::*;
-use crate::table::{Step, run};
+use crate::table::{Step, over_both, over_each};
 use mark_memory::MarkMemory;
 use row_memory::RowMemory;
 use slot_memory::Index::*;
-use slot_memory::SlotMemory;
 use slot_memory::Stored::*;
-use std::process::Abort;
-use std::test::Fail;
+use slot_memory::{SlotMemory, Stored};
+use std::alloc::AllocError;
 use visit::Visit;
 
-const TOP: u32 = 4294967295;
-
+// These two stand in `dock_tests` too: what a crate has for its tests alone no other crate can use.
 const EARLY: Visit = Visit {
     guard: 1,
     checkpoint: 2,
@@ -19,17 +19,20 @@ const EARLY: Visit = Visit {
 };
 
 const LATE: Visit = Visit {
-    guard: 1,
-    checkpoint: 2,
     minute: 1439,
+    ..EARLY
 };
 
-// What every memory answers, whatever its length: `last` is its last slot, and `past` one further.
-fn common<E: Copy>(last: u32, past: u32, a: E, b: E) -> [Step<E>; 30] {
+// What every memory answers, whatever its length.
+fn common<E: Copy>(length: u32, a: E, b: E) -> [Step<E>; 30]
+    requires { 0 < length }
+{
+    let last = length - 1;
+    let past = length;
     [
-        Clear(TOP),
-        Read(Tail, TOP),
-        Read(Head, TOP),
+        Clear(u32::MAX),
+        Read(Tail, u32::MAX),
+        Read(Head, u32::MAX),
         // the last slot and the last bay are in range
         Slot(15, last, None),
         Fill(15, last, a, Accepted),
@@ -48,17 +51,17 @@ fn common<E: Copy>(last: u32, past: u32, a: E, b: E) -> [Step<E>; 30] {
         Empty(0, last, Accepted),
         // a bay has one mark: the second takes the place of the first
         Slot(1, last, None),
-        Index(1, Tail, TOP),
+        Index(1, Tail, u32::MAX),
         Fill(1, last, a, Refused),
         // and that refused store took the mark on Tail too
         Store(1, Tail, 0, Refused),
-        Read(Tail, TOP),
+        Read(Tail, u32::MAX),
         // an index comes round, and a store that writes what was there kills the marks all the same
-        Index(2, Head, TOP),
-        Index(3, Head, TOP),
-        Store(2, Head, TOP, Accepted),
+        Index(2, Head, u32::MAX),
+        Index(3, Head, u32::MAX),
+        Store(2, Head, u32::MAX, Accepted),
         Store(3, Head, 0, Refused),
-        Read(Head, TOP),
+        Read(Head, u32::MAX),
         // clear empties what was filled and removes the marks
         Slot(4, last, None),
         Clear(0),
@@ -68,7 +71,7 @@ fn common<E: Copy>(last: u32, past: u32, a: E, b: E) -> [Step<E>; 30] {
 }
 
 // Where the two memories part: stores among neighbours. `balked` is what a store on a spoilt mark gets.
-fn neighbours<E: Copy>(a: E, balked: slot_memory::Stored) -> [Step<E>; 24] {
+fn neighbours<E: Copy>(a: E, balked: Stored) -> [Step<E>; 24] {
     [
         Clear(9),
         // a store in Head, with a mark on Tail
@@ -104,63 +107,26 @@ fn neighbours<E: Copy>(a: E, balked: slot_memory::Stored) -> [Step<E>; 24] {
 
 #[test]
 fn one_slot(rt: HostRuntime) {
-    let mut words = [Some(77u32); 1];
-    run(
-        &rt,
-        &mut MarkMemory::new(&mut words),
-        &common(0, 1, 5u32, 6),
-    );
-    run(&rt, &mut RowMemory::new(&mut words), &common(0, 1, 5u32, 6));
-    let mut visits = [Some(LATE); 1];
-    run(
-        &rt,
-        &mut MarkMemory::new(&mut visits),
-        &common(0, 1, EARLY, LATE),
-    );
-    run(
-        &rt,
-        &mut RowMemory::new(&mut visits),
-        &common(0, 1, EARLY, LATE),
-    );
+    over_both(&rt, "words", &mut [Some(77)], &common(1, 5u32, 6));
+    over_both(&rt, "visits", &mut [Some(LATE)], &common(1, EARLY, LATE));
 }
 
 #[test]
-fn most_slots(rt: HostRuntime) -> Result<(), Fail> {
-    let mut words = vec![in rt.alloc(); Some(77u32); 1030]?;
-    run(
-        &rt,
-        &mut MarkMemory::new(words.as_mut_slice()),
-        &common(1024, 1025, 5u32, 6),
-    );
-    run(
-        &rt,
-        &mut RowMemory::new(words.as_mut_slice()),
-        &common(1024, 1025, 5u32, 6),
-    );
+fn most_slots(rt: HostRuntime) -> Result<(), AllocError> {
+    let mut words = vec![in rt.alloc(); Some(77); 1030]?;
+    over_both(&rt, "words", words.as_mut_slice(), &common(1025, 5u32, 6));
     let mut visits = vec![in rt.alloc(); Some(LATE); 1025]?;
-    run(
+    over_both(
         &rt,
-        &mut MarkMemory::new(visits.as_mut_slice()),
-        &common(1024, 1025, EARLY, LATE),
+        "visits",
+        visits.as_mut_slice(),
+        &common(1025, EARLY, LATE),
     );
-    run(
-        &rt,
-        &mut RowMemory::new(visits.as_mut_slice()),
-        &common(1024, 1025, EARLY, LATE),
-    );
-    Ok(())
-}
-
-// How many of so many lent slots each memory uses.
-fn lengths_of(rt: &(impl Abort + AllocGlobal), lent: usize, due: u32) -> Result<(), Fail> {
-    let mut row = vec![in rt.alloc(); None; lent]?;
-    assert_eq!(rt; MarkMemory::<u32>::new(row.as_mut_slice()).length(), due);
-    assert_eq!(rt; RowMemory::<u32>::new(row.as_mut_slice()).length(), due);
     Ok(())
 }
 
 #[test]
-fn lengths(rt: HostRuntime) -> Result<(), Fail> {
+fn lengths(rt: HostRuntime) -> Result<(), AllocError> {
     for (lent, due) in [
         (0, 0),
         (1, 1),
@@ -170,33 +136,37 @@ fn lengths(rt: HostRuntime) -> Result<(), Fail> {
         (1026, 1025),
         (4000, 1025),
     ] {
-        lengths_of(&rt, lent, due)?;
+        let mut row = vec![in rt.alloc(); None; lent]?;
+        let marks = MarkMemory::<u32>::new(row.as_mut_slice());
+        assert_eq!(rt;
+            marks.length(),
+            due,
+            "of {lent} lent slots, over the mark memory"
+        );
+        let rows = RowMemory::<u32>::new(row.as_mut_slice());
+        assert_eq!(rt;
+            rows.length(),
+            due,
+            "of {lent} lent slots, over the row memory"
+        );
     }
     Ok(())
 }
 
 #[test]
 fn slots_in_rows(rt: HostRuntime) {
-    let mut words = [None; 8];
-    run(
+    over_each(
         &rt,
-        &mut MarkMemory::new(&mut words),
+        "words",
+        &mut [None; 8],
         &neighbours(5u32, Accepted),
+        &neighbours(5, Refused),
     );
-    run(
+    over_each(
         &rt,
-        &mut RowMemory::new(&mut words),
-        &neighbours(5u32, Refused),
-    );
-    let mut visits = [None; 8];
-    run(
-        &rt,
-        &mut MarkMemory::new(&mut visits),
+        "visits",
+        &mut [None; 8],
         &neighbours(EARLY, Accepted),
-    );
-    run(
-        &rt,
-        &mut RowMemory::new(&mut visits),
         &neighbours(EARLY, Refused),
     );
 }

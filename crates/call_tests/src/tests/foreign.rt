@@ -1,205 +1,231 @@
 // Receipts that are handed to another dock. A receipt is known by its bay and serial alone.
-ghost use Rattle.std.specs.Prelude.{◌≤◌, length};
-
-use super::*;
-use crate::hand::{exchange, offer};
-use crate::harness::Act::*;
-use crate::harness::Item::*;
-use crate::harness::Look::*;
-use crate::harness::{Desk, play};
-use dock::{Book, Dock};
+use crate::bench::{Bench, Desk};
+use crate::elements::Item::*;
+use crate::elements::Sample;
+use crate::judge::Judge;
+use crate::table::Act;
+use crate::table::Act::*;
+use crate::table::Closing::*;
+use crate::table::Look::*;
 use dock_rules::Outcome::*;
 use dock_rules::Refusal;
 use mark_memory::MarkMemory;
 use row_memory::RowMemory;
 use slot_memory::SlotMemory;
-use std::fmt::Debug;
-
-// Makes the calls on a new dock, whose caller has no book.
-fn prepare<M: SlotMemory>(
-    judge: &mut Judge<'_, impl Abort>,
-    dock: &mut Dock<M>,
-    trays: &mut [M::Element],
-    elements: &[M::Element],
-    acts: &[Act],
-)
-where
-    M::Element: PartialEq + Debug,
-    requires { 4 ≤ length elements.now }
-{
-    let mut desk = Desk {
-        handed: trays.len(),
-        trays,
-    };
-    let mut book = Book {
-        row: &mut [],
-        entered: 0,
-    };
-    play(judge, dock, &mut desk, &mut book, elements, acts);
-}
+use std::alloc::AllocError;
+use std::process::Abort;
+use visit::Visit;
 
 // A take has ended at bay 1, with the serial 2.
-static TAKEN_AT_1: [Act; 5] = [
+const TAKEN_AT_1: &[Act] = &[
     Look(Trays(2)),
-    Open(2, 9, TOP, Ok(())),
+    Open(2, 9, u32::MAX, Ok(())),
     PutWhole(0, A, Stored),
     Take(1, Ok(2)),
     Finish(1, Taken),
 ];
 
-static NOTHING: [Act; 0] = [];
+const NOTHING: &[Act] = &[];
 
-static ONE_BAY: [Act; 1] = [Open(1, 9, TOP, Ok(()))];
+const ONE_BAY: &[Act] = &[Open(1, 9, u32::MAX, Ok(()))];
 
-static TWO_FREE: [Act; 1] = [Open(2, 9, TOP, Ok(()))];
+const TWO_FREE: &[Act] = &[Open(2, 9, u32::MAX, Ok(()))];
 
-static UNDER_WAY: [Act; 3] = [Open(2, 9, TOP, Ok(())), Take(0, Ok(1)), Take(1, Ok(2))];
+const UNDER_WAY: &[Act] = &[Open(2, 9, u32::MAX, Ok(())), Take(0, Ok(1)), Take(1, Ok(2))];
 
-static ENDED: [Act; 5] = [
+const ENDED: &[Act] = &[
     Look(Trays(2)),
-    Open(2, 9, TOP, Ok(())),
+    Open(2, 9, u32::MAX, Ok(())),
     Take(0, Ok(1)),
     Take(1, Ok(2)),
     Finish(1, Empty),
 ];
 
-// The receipt of bay 1 and serial 2 is offered to another dock, with so many trays and a book of one
-// place with so many entered; then it is waived at home, where a new call starts.
-fn offered<M: SlotMemory, N: SlotMemory>(
-    judge: &Judge<'_, impl Abort>,
-    home: &mut Dock<M>,
-    away: &mut Dock<N>,
-    trays: &[N::Element],
-    row: &mut [N::Element],
-    entered: usize,
-    due: (Refusal, Refusal),
-) {
-    let mut book = Book { row, entered };
-    offer(judge, home, 1, 2, away, trays, &mut book, due);
-    judge.same(book.entered, entered);
-    judge.same(home.take(1), Ok(3));
-}
-
-// To a dock after these calls: of words to visits, over different memories, and the other way round.
-fn refused_away(
-    judge: &mut Judge<'_, impl Abort>,
-    acts: &[Act],
+/// A dock to which a receipt is offered: the calls that were made on it, how many trays are handed over
+/// with the receipt, how many are entered in the book of one place, and why the enter and the waive are
+/// turned down.
+#[derive(Clone, Copy)]
+struct Offer {
+    acts: &'static [Act],
     handed: usize,
     entered: usize,
     due: (Refusal, Refusal),
-) {
-    judge.number = judge.number.saturating_add(1);
-    let mut slots = [None; 1];
-    let mut trays = [0; 3];
-    let mut visited = [None; 1];
-    let mut visits = [VISITS[0]; 3];
-    let mut words_home = Dock::new(MarkMemory::new(&mut slots));
-    let mut visits_away = Dock::new(RowMemory::new(&mut visited));
-    prepare(judge, &mut words_home, &mut trays, &WORDS, &TAKEN_AT_1);
-    prepare(judge, &mut visits_away, &mut visits, &VISITS, acts);
-    offered(
+}
+
+static OFFERS: [Offer; 11] = [
+    // not open: with all of the later reasons, and with the bay and the serial alone
+    Offer {
+        acts: NOTHING,
+        handed: 3,
+        entered: 1,
+        due: (Refusal::Shut, Refusal::Shut),
+    },
+    Offer {
+        acts: NOTHING,
+        handed: 0,
+        entered: 0,
+        due: (Refusal::Shut, Refusal::Shut),
+    },
+    // no such bay: after the number of trays, and before the serial and the book
+    Offer {
+        acts: ONE_BAY,
+        handed: 3,
+        entered: 1,
+        due: (Refusal::Trays, Refusal::Bay),
+    },
+    Offer {
+        acts: ONE_BAY,
+        handed: 1,
+        entered: 1,
+        due: (Refusal::Bay, Refusal::Bay),
+    },
+    Offer {
+        acts: ONE_BAY,
+        handed: 1,
+        entered: 0,
+        due: (Refusal::Bay, Refusal::Bay),
+    },
+    // no such receipt: after the number of trays, and before the book
+    Offer {
+        acts: TWO_FREE,
+        handed: 3,
+        entered: 0,
+        due: (Refusal::Trays, Refusal::Serial),
+    },
+    Offer {
+        acts: TWO_FREE,
+        handed: 2,
+        entered: 1,
+        due: (Refusal::Serial, Refusal::Serial),
+    },
+    Offer {
+        acts: TWO_FREE,
+        handed: 2,
+        entered: 0,
+        due: (Refusal::Serial, Refusal::Serial),
+    },
+    // a call of that bay and serial is no receipt, under way or ended
+    Offer {
+        acts: UNDER_WAY,
+        handed: 2,
+        entered: 0,
+        due: (Refusal::Serial, Refusal::Serial),
+    },
+    Offer {
+        acts: ENDED,
+        handed: 2,
+        entered: 0,
+        due: (Refusal::Serial, Refusal::Serial),
+    },
+    Offer {
+        acts: TAKEN_AT_1,
+        handed: 2,
+        entered: 0,
+        due: (Refusal::Serial, Refusal::Serial),
+    },
+];
+
+// The receipt of bay 1 and serial 2 is offered; then it is waived at home, where a new call starts.
+fn offered<M: SlotMemory + Drop, N: SlotMemory + Drop>(
+    judge: &mut Judge<'_, impl Abort>,
+    home: &mut Bench<M>,
+    away: &mut Bench<N>,
+    offer: &Offer,
+)
+where
+    M::Element: Sample,
+    N::Element: Sample,
+{
+    home.play(judge, TAKEN_AT_1);
+    home.play(judge, &[Close(Collect(1, 2, Ok(Taken)))]);
+    away.play(judge, offer.acts);
+    away.play(
         judge,
-        &mut words_home,
-        &mut visits_away,
-        front(&mut visits[..], handed),
-        &mut [VISITS[0]],
-        entered,
-        due,
+        &[Look(Trays(offer.handed)), Look(Book(offer.entered))],
     );
-    let mut visits_home = Dock::new(RowMemory::new(&mut visited));
-    let mut words_away = Dock::new(MarkMemory::new(&mut slots));
-    prepare(judge, &mut visits_home, &mut visits, &VISITS, &TAKEN_AT_1);
-    prepare(judge, &mut words_away, &mut trays, &WORDS, acts);
-    offered(
-        judge,
-        &mut visits_home,
-        &mut words_away,
-        front(&mut trays[..], handed),
-        &mut [0],
-        entered,
-        due,
-    );
+    home.offer(judge, away, offer.due);
+    away.play(judge, &[Look(Entered(offer.entered))]);
+    home.play(judge, &[Close(Waive(Ok(()))), Take(1, Ok(3))]);
+}
+
+// Of words to visits, over different memories, and the other way round.
+fn offered_both_ways(
+    rt: &(impl Abort + AllocGlobal),
+    number: usize,
+    offer: &Offer,
+) -> Result<(), AllocError> {
+    let mut slots = [None::<u32>; 1];
+    let mut visited = [None::<Visit>; 1];
+    let word_desk = Desk::new(rt.alloc(), 3, 1)?;
+    let visit_desk = Desk::new(rt.alloc(), 3, 1)?;
+    let mut judge = Judge::new(rt, "offered", number, "words", "mark");
+    let mut words = Bench::new(MarkMemory::new(&mut slots), word_desk);
+    let mut visits = Bench::new(RowMemory::new(&mut visited), visit_desk);
+    offered(&mut judge, &mut words, &mut visits, offer);
+    words.end();
+    visits.end();
+    let word_desk = Desk::new(rt.alloc(), 3, 1)?;
+    let visit_desk = Desk::new(rt.alloc(), 3, 1)?;
+    let mut judge = Judge::new(rt, "offered", number, "visits", "row");
+    let mut words = Bench::new(MarkMemory::new(&mut slots), word_desk);
+    let mut visits = Bench::new(RowMemory::new(&mut visited), visit_desk);
+    offered(&mut judge, &mut visits, &mut words, offer);
+    words.end();
+    visits.end();
+    Ok(())
 }
 
 #[test]
-fn refused_by_another_dock(rt: HostRuntime) {
-    let mut judge = judge_of(&rt, "offered", 0);
-    let shut = (Refusal::Shut, Refusal::Shut);
-    // not open: with all of the later reasons, and with the bay and the serial alone
-    refused_away(&mut judge, &NOTHING, 3, 1, shut);
-    refused_away(&mut judge, &NOTHING, 0, 0, shut);
-    // no such bay: after the number of trays, and before the serial and the book
-    let bay = (Refusal::Bay, Refusal::Bay);
-    refused_away(&mut judge, &ONE_BAY, 3, 1, (Refusal::Trays, Refusal::Bay));
-    refused_away(&mut judge, &ONE_BAY, 1, 1, bay);
-    refused_away(&mut judge, &ONE_BAY, 1, 0, bay);
-    // no such receipt: after the number of trays, and before the book
-    let serial = (Refusal::Serial, Refusal::Serial);
-    refused_away(
-        &mut judge,
-        &TWO_FREE,
-        3,
-        0,
-        (Refusal::Trays, Refusal::Serial),
-    );
-    refused_away(&mut judge, &TWO_FREE, 2, 1, serial);
-    refused_away(&mut judge, &TWO_FREE, 2, 0, serial);
-    // a call of that bay and serial is no receipt, under way or ended
-    refused_away(&mut judge, &UNDER_WAY, 2, 0, serial);
-    refused_away(&mut judge, &ENDED, 2, 0, serial);
-    refused_away(&mut judge, &TAKEN_AT_1, 2, 0, serial);
+fn refused_by_another_dock(rt: HostRuntime) -> Result<(), AllocError> {
+    for (i, offer) in OFFERS.iter().enumerate() {
+        offered_both_ways(&rt, i, offer)?;
+    }
+    Ok(())
 }
 
 // Two docks with a receipt of bay 1 and serial 2 each: either takes the other's for its own, and is
 // free then. What is entered at a dock is the element of that dock's tray.
-fn exchanged<M: SlotMemory, N: SlotMemory>(
-    judge: &Judge<'_, impl Abort>,
-    one: &mut Dock<M>,
-    other: &mut Dock<N>,
-    trays: &[N::Element],
-    row: &mut [N::Element],
-    due: N::Element,
+fn exchanged<M: SlotMemory + Drop, N: SlotMemory + Drop>(
+    judge: &mut Judge<'_, impl Abort>,
+    one: &mut Bench<M>,
+    other: &mut Bench<N>,
 )
 where
-    N::Element: PartialEq + Debug,
+    M::Element: Sample,
+    N::Element: Sample,
 {
-    let mut book = Book { row, entered: 0 };
-    exchange(judge, one, other, 1, 2, trays, &mut book);
-    judge.same(book.entered, 1);
-    judge.same(book.row.get(0).copied(), Some(due));
-    judge.same(one.take(1), Ok(3));
-    judge.same(other.take(1), Ok(3));
+    one.play(judge, TAKEN_AT_1);
+    other.play(judge, TAKEN_AT_1);
+    one.swap(judge, other, 1, 2);
+    let entered = [
+        Close(Enter(Ok(()))),
+        Look(Entered(1)),
+        Look(Row(0, A)),
+        Take(1, Ok(3)),
+    ];
+    other.play(judge, &entered);
+    one.play(judge, &[Close(Waive(Ok(()))), Take(1, Ok(3))]);
 }
 
 #[test]
-fn accepted_by_another_dock(rt: HostRuntime) {
-    let mut judge = judge_of(&rt, "exchanged", 0);
-    let mut slots = [None; 1];
-    let mut trays = [0; 2];
-    let mut visited = [None; 1];
-    let mut visits = [VISITS[0]; 2];
-    let mut words = Dock::new(MarkMemory::new(&mut slots));
-    let mut visitors = Dock::new(RowMemory::new(&mut visited));
-    prepare(&mut judge, &mut words, &mut trays, &WORDS, &TAKEN_AT_1);
-    prepare(&mut judge, &mut visitors, &mut visits, &VISITS, &TAKEN_AT_1);
-    exchanged(
-        &judge,
-        &mut words,
-        &mut visitors,
-        &visits,
-        &mut [VISITS[0]],
-        VISITS[1],
-    );
-    let mut words = Dock::new(RowMemory::new(&mut slots));
-    let mut visitors = Dock::new(MarkMemory::new(&mut visited));
-    prepare(&mut judge, &mut words, &mut trays, &WORDS, &TAKEN_AT_1);
-    prepare(&mut judge, &mut visitors, &mut visits, &VISITS, &TAKEN_AT_1);
-    exchanged(
-        &judge,
-        &mut visitors,
-        &mut words,
-        &trays,
-        &mut [0],
-        WORDS[1],
-    );
+fn accepted_by_another_dock(rt: HostRuntime) -> Result<(), AllocError> {
+    let mut slots = [None::<u32>; 1];
+    let mut visited = [None::<Visit>; 1];
+    let word_desk = Desk::new(rt.alloc(), 2, 1)?;
+    let visit_desk = Desk::new(rt.alloc(), 2, 1)?;
+    let mut judge = Judge::new(&rt, "exchanged", 0, "words", "mark");
+    let mut words = Bench::new(MarkMemory::new(&mut slots), word_desk);
+    let mut visits = Bench::new(RowMemory::new(&mut visited), visit_desk);
+    exchanged(&mut judge, &mut words, &mut visits);
+    words.end();
+    visits.end();
+    let word_desk = Desk::new(rt.alloc(), 2, 1)?;
+    let visit_desk = Desk::new(rt.alloc(), 2, 1)?;
+    let mut judge = Judge::new(&rt, "exchanged", 1, "visits", "mark");
+    let mut words = Bench::new(RowMemory::new(&mut slots), word_desk);
+    let mut visits = Bench::new(MarkMemory::new(&mut visited), visit_desk);
+    exchanged(&mut judge, &mut visits, &mut words);
+    words.end();
+    visits.end();
+    Ok(())
 }

@@ -1,12 +1,13 @@
 // A reader is pulled out of its bay at each of the eighteen lines, and the others go on.
-use super::*;
-use crate::harness::Act::*;
-use crate::harness::Closing::*;
-use crate::harness::Item::*;
-use crate::harness::Look::*;
+use crate::elements::Item::*;
+use crate::table::Act::*;
+use crate::table::Closing::*;
+use crate::table::Look::*;
+use crate::table::{Act, Table};
 use dock_rules::Line::*;
 use dock_rules::Outcome::*;
 use dock_rules::{Abandoned, Line};
+use std::alloc::AllocError;
 
 // What becomes of the call that was held.
 #[derive(Clone, Copy)]
@@ -65,7 +66,7 @@ fn held_put((line, steps, beside, left): Held, way: Way) -> [Act; 12] {
         Way::GivenUp | Way::Lost => (Look(Tray(0, A)), TakeWhole(2, None)),
     };
     [
-        Open(4, 20, TOP, Ok(())),
+        Open(4, 20, u32::MAX, Ok(())),
         Put(3, C, Ok(1)),
         Reach(3, before, reached),
         Put(0, A, Ok(2)),
@@ -102,7 +103,7 @@ fn held_take((line, steps, beside, left): Held, way: Way) -> [Act; 15] {
         _ => Look(Entered(0)),
     };
     [
-        Open(4, 20, TOP, Ok(())),
+        Open(4, 20, u32::MAX, Ok(())),
         PutWhole(1, A, Stored),
         PutWhole(1, B, Stored),
         Take(3, Ok(3)),
@@ -120,14 +121,31 @@ fn held_take((line, steps, beside, left): Held, way: Way) -> [Act; 15] {
     ]
 }
 
+// A row of the puts or of the takes, with a ring of four slots.
+fn held<'a>(name: &'static str, number: usize, acts: &'a [Act]) -> Table<'a> {
+    Table {
+        name,
+        number,
+        slots: 4,
+        trays: 4,
+        book: 0,
+        acts,
+    }
+}
+
 #[test]
-fn pulled_out_at_every_line(rt: HostRuntime) {
-    for way in [Way::Lost, Way::GivenUp, Way::Back] {
-        for (i, held) in PUTS.iter().enumerate() {
-            run_row(judge_of(&rt, "put", i), 4, 4, 0, &held_put(*held, way));
+fn pulled_out_at_every_line(rt: HostRuntime) -> Result<(), AllocError> {
+    for (way, put, take) in [
+        (Way::Lost, "lost put", "lost take"),
+        (Way::GivenUp, "put given up", "take given up"),
+        (Way::Back, "put gone on", "take gone on"),
+    ] {
+        for (i, row) in PUTS.iter().enumerate() {
+            held(put, i, &held_put(*row, way)).run(&rt)?;
         }
-        for (i, held) in TAKES.iter().enumerate() {
-            run_row(judge_of(&rt, "take", i), 4, 4, 0, &held_take(*held, way));
+        for (i, row) in TAKES.iter().enumerate() {
+            held(take, i, &held_take(*row, way)).run(&rt)?;
         }
     }
+    Ok(())
 }
