@@ -64,6 +64,7 @@ pub enum Left {
 }
 
 /// A bay's call of a given serial.
+// No `Result`: neither of the two is an error of its own, collect asks for the one and abandon for the other.
 #[derive(Clone, Copy)]
 pub(crate) enum Found {
     /// It stands at this line.

@@ -58,6 +58,7 @@ pub enum Abandoned {
 }
 
 /// What a step answers.
+// No `ControlFlow`: at a line or ended is what callers print and compare, and `?` has no use for it.
 #[derive(Clone, Copy, Debug, PartialEq, Eq)]
 pub enum Stepped {
     At(Line),
@@ -106,6 +107,7 @@ pub struct Attempt {
     /// The index as the call's last first line read it: Tail for a put, Head for a take.
     pub index: u32,
     /// Whether the slot held an element when the call last marked it.
+    // No `Option` of the element: a take has it in its tray, and a put has no need of it.
     pub held: bool,
 }
 

@@ -53,9 +53,9 @@ impl<R: Abort> Judge<'_, R> {
             Step::Slot(bay, slot, due) => self.same(memory.mark_slot(bay, slot), due),
             Step::Index(bay, index, due) => self.same(memory.mark_index(bay, index), due),
             Step::Fill(bay, slot, element, due) => {
-                self.same(memory.fill_slot(bay, slot, element), due)
+                self.same(memory.store_slot(bay, slot, Some(element)), due)
             }
-            Step::Empty(bay, slot, due) => self.same(memory.empty_slot(bay, slot), due),
+            Step::Empty(bay, slot, due) => self.same(memory.store_slot(bay, slot, None), due),
             Step::Store(bay, index, number, due) => {
                 self.same(memory.store_index(bay, index, number), due)
             }

@@ -14,6 +14,7 @@ pub struct RowMark {
     cell: Cell,
     /// A store was accepted on another cell of the same row since the mark was made: the next store
     /// on this mark is refused.
+    // A flag, since a mark has its cell in either case.
     spoilt: bool,
 }
 

@@ -12,7 +12,7 @@ mod run;
 mod session;
 mod transcript;
 
-pub use run::run_text;
+pub use run::{MOST_TEXT, run_text};
 
 /// How many calls a text may start.
 const LIFETIME: u32 = 1000;

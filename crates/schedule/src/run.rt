@@ -13,7 +13,7 @@ use slot_memory::Bay;
 use std::alloc::{AllocError, Global};
 
 /// The longest text.
-const MOST_TEXT: usize = 4096;
+pub const MOST_TEXT: usize = 4096;
 
 /// How many elements a book has room for.
 const BOOK_LENGTH: usize = 64;

@@ -37,6 +37,7 @@ pub enum Cell {
 }
 
 /// What a store answers.
+// No `Result`: a refused store is no error, and nobody has to look at it.
 #[derive(Clone, Copy, Debug, PartialEq, Eq)]
 pub enum Stored {
     /// The cell is written, and every mark on it is gone.

@@ -5,8 +5,6 @@
 ghost use Rattle.worked_examples.specs.Examples.{WorkedExamples};
 
 /// The worked examples stand.
-pub fn worked_examples_stand() -> u8
+pub fn worked_examples_stand()
     ensures { WorkedExamples }
-{
-    0
-}
+{}

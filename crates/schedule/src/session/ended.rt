@@ -6,6 +6,7 @@ use crate::Response;
 use dock::{Collected, Left, Receipt};
 
 /// A call that is done with: how it is answered, or the receipt that is to be settled first.
+// No `Result`: a receipt is no error.
 pub(super) enum Ended {
     Answered(Response),
     Owed(Receipt),
