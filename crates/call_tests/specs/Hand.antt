@@ -53,11 +53,6 @@ abbrev pub HandedOver : DockState → ℕ → ℕ → Option Receipt → Type 0
 HandedOver d b s None = Unit {0}
 HandedOver d b s (Some x) = Handed d b s x
 
--- it is this receipt, as it was given back by a dock that is as it was
-abbrev pub BackInHand : Receipt → DockState → Option Receipt → DockState → Type 0
-BackInHand x d None e = Unit {0}
-BackInHand x d (Some y) e = (y ≡ x) × (e ≡ d)
-
 -- another receipt is of another bay
 abbrev pub Apart : Option Receipt → Receipt → Type 0
 Apart None x = Unit {0}

@@ -55,6 +55,7 @@ impl From<Result<(), (Refusal, Receipt)>> for Reply<()> {
     }
 }
 
+// These two stay apart, since what a dock promises of a call stands at that call alone.
 fn collect<M: SlotMemory>(dock: &mut Dock<M>, bay: Bay, serial: u32) -> Reply<Outcome>
     ensures { Closes dock.old.state bay serial result.receipt dock.new.state }
 {
@@ -104,6 +105,8 @@ impl<M: SlotMemory> Session<M> {
             hand: None,
         }
     }
+
+    // These four hand out no receipt and spend none, so that the one in hand stays out.
 
     pub(crate) fn open(&mut self, bays: Bay, lifetime: u32, base: u32) -> Result<(), Refusal> {
         self.dock.open(bays, lifetime, base)
@@ -161,7 +164,7 @@ impl<M: SlotMemory> Session<M> {
     }
 
     /// Enters the receipt in hand, in a book of this row with so many entered. A refused one is in hand
-    /// again.
+    /// again. (A `Book` that is made of a bench's fields, or kept there, gets no proof.)
     pub(crate) fn enter(
         &mut self,
         trays: &[M::Element],

@@ -127,15 +127,19 @@ static OFFERS: [Offer; 11] = [
 
 // The receipt of bay 1 and serial 2 is offered; then it is waived at home, where a new call starts.
 fn offered<M: SlotMemory + Drop, N: SlotMemory + Drop>(
-    judge: &mut Judge<'_, impl Abort>,
-    home: &mut Bench<M>,
-    away: &mut Bench<N>,
+    judge: &mut Judge<'_, impl Abort + AllocGlobal>,
+    home: M,
+    away: N,
     offer: &Offer,
-)
+) -> Result<(), AllocError>
 where
     M::Element: Sample,
     N::Element: Sample,
 {
+    let home_desk = Desk::new(judge.rt.alloc(), 3, 1)?;
+    let away_desk = Desk::new(judge.rt.alloc(), 3, 1)?;
+    let mut home = Bench::new(home, home_desk);
+    let mut away = Bench::new(away, away_desk);
     home.play(judge, TAKEN_AT_1);
     home.play(judge, &[Close(Collect(1, 2, Ok(Taken)))]);
     away.play(judge, offer.acts);
@@ -143,42 +147,28 @@ where
         judge,
         &[Look(Trays(offer.handed)), Look(Book(offer.entered))],
     );
-    home.offer(judge, away, offer.due);
+    home.offer(judge, &mut away, offer.due);
     away.play(judge, &[Look(Entered(offer.entered))]);
     home.play(judge, &[Close(Waive(Ok(()))), Take(1, Ok(3))]);
-}
-
-// Of words to visits, over different memories, and the other way round.
-fn offered_both_ways(
-    rt: &(impl Abort + AllocGlobal),
-    number: usize,
-    offer: &Offer,
-) -> Result<(), AllocError> {
-    let mut slots = [None::<u32>; 1];
-    let mut visited = [None::<Visit>; 1];
-    let word_desk = Desk::new(rt.alloc(), 3, 1)?;
-    let visit_desk = Desk::new(rt.alloc(), 3, 1)?;
-    let mut judge = Judge::new(rt, "offered", number, "words", "mark");
-    let mut words = Bench::new(MarkMemory::new(&mut slots), word_desk);
-    let mut visits = Bench::new(RowMemory::new(&mut visited), visit_desk);
-    offered(&mut judge, &mut words, &mut visits, offer);
-    words.end();
-    visits.end();
-    let word_desk = Desk::new(rt.alloc(), 3, 1)?;
-    let visit_desk = Desk::new(rt.alloc(), 3, 1)?;
-    let mut judge = Judge::new(rt, "offered", number, "visits", "row");
-    let mut words = Bench::new(MarkMemory::new(&mut slots), word_desk);
-    let mut visits = Bench::new(RowMemory::new(&mut visited), visit_desk);
-    offered(&mut judge, &mut visits, &mut words, offer);
-    words.end();
-    visits.end();
+    home.end();
+    away.end();
     Ok(())
 }
 
+// Of words to visits, over different memories, and the other way round.
 #[test]
 fn refused_by_another_dock(rt: HostRuntime) -> Result<(), AllocError> {
+    let mut slots = [None::<u32>; 1];
+    let mut visited = [None::<Visit>; 1];
     for (i, offer) in OFFERS.iter().enumerate() {
-        offered_both_ways(&rt, i, offer)?;
+        let mut judge = Judge::new(&rt, "offered", i, "words", "mark");
+        let words = MarkMemory::new(&mut slots);
+        let visits = RowMemory::new(&mut visited);
+        offered(&mut judge, words, visits, offer)?;
+        let mut judge = Judge::new(&rt, "offered", i, "visits", "row");
+        let words = MarkMemory::new(&mut slots);
+        let visits = RowMemory::new(&mut visited);
+        offered(&mut judge, visits, words, offer)?;
     }
     Ok(())
 }
@@ -186,17 +176,21 @@ fn refused_by_another_dock(rt: HostRuntime) -> Result<(), AllocError> {
 // Two docks with a receipt of bay 1 and serial 2 each: either takes the other's for its own, and is
 // free then. What is entered at a dock is the element of that dock's tray.
 fn exchanged<M: SlotMemory + Drop, N: SlotMemory + Drop>(
-    judge: &mut Judge<'_, impl Abort>,
-    one: &mut Bench<M>,
-    other: &mut Bench<N>,
-)
+    judge: &mut Judge<'_, impl Abort + AllocGlobal>,
+    one: M,
+    other: N,
+) -> Result<(), AllocError>
 where
     M::Element: Sample,
     N::Element: Sample,
 {
+    let one_desk = Desk::new(judge.rt.alloc(), 2, 1)?;
+    let other_desk = Desk::new(judge.rt.alloc(), 2, 1)?;
+    let mut one = Bench::new(one, one_desk);
+    let mut other = Bench::new(other, other_desk);
     one.play(judge, TAKEN_AT_1);
     other.play(judge, TAKEN_AT_1);
-    one.swap(judge, other, 1, 2);
+    one.swap(judge, &mut other, 1, 2);
     let entered = [
         Close(Enter(Ok(()))),
         Look(Entered(1)),
@@ -205,27 +199,21 @@ where
     ];
     other.play(judge, &entered);
     one.play(judge, &[Close(Waive(Ok(()))), Take(1, Ok(3))]);
+    one.end();
+    other.end();
+    Ok(())
 }
 
 #[test]
 fn accepted_by_another_dock(rt: HostRuntime) -> Result<(), AllocError> {
     let mut slots = [None::<u32>; 1];
     let mut visited = [None::<Visit>; 1];
-    let word_desk = Desk::new(rt.alloc(), 2, 1)?;
-    let visit_desk = Desk::new(rt.alloc(), 2, 1)?;
     let mut judge = Judge::new(&rt, "exchanged", 0, "words", "mark");
-    let mut words = Bench::new(MarkMemory::new(&mut slots), word_desk);
-    let mut visits = Bench::new(RowMemory::new(&mut visited), visit_desk);
-    exchanged(&mut judge, &mut words, &mut visits);
-    words.end();
-    visits.end();
-    let word_desk = Desk::new(rt.alloc(), 2, 1)?;
-    let visit_desk = Desk::new(rt.alloc(), 2, 1)?;
+    let words = MarkMemory::new(&mut slots);
+    let visits = RowMemory::new(&mut visited);
+    exchanged(&mut judge, words, visits)?;
     let mut judge = Judge::new(&rt, "exchanged", 1, "visits", "mark");
-    let mut words = Bench::new(RowMemory::new(&mut slots), word_desk);
-    let mut visits = Bench::new(MarkMemory::new(&mut visited), visit_desk);
-    exchanged(&mut judge, &mut visits, &mut words);
-    words.end();
-    visits.end();
-    Ok(())
+    let words = RowMemory::new(&mut slots);
+    let visits = MarkMemory::new(&mut visited);
+    exchanged(&mut judge, visits, words)
 }

@@ -75,22 +75,24 @@ static RIGHT_LENGTH: Table = Table {
     acts: &[Open(1, 1, 7, Ok(()))],
 };
 
-// The table with so many slots, which are its number in messages.
-fn over(slots: usize, table: &Table<'static>) -> Table<'static> {
-    Table {
-        number: slots,
-        slots,
-        ..*table
-    }
-}
-
+// The number of slots is the row's number in messages.
 #[test]
 fn lengths(rt: HostRuntime) -> Result<(), AllocError> {
     for slots in [0, 3, 5, 6, 7, 1025] {
-        over(slots, &WRONG_LENGTH).run(&rt)?;
+        let table = Table {
+            number: slots,
+            slots,
+            ..WRONG_LENGTH
+        };
+        table.run(&rt)?;
     }
     for slots in [1, 2, 4, 8, 1024] {
-        over(slots, &RIGHT_LENGTH).run(&rt)?;
+        let table = Table {
+            number: slots,
+            slots,
+            ..RIGHT_LENGTH
+        };
+        table.run(&rt)?;
     }
     Ok(())
 }
