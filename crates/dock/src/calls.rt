@@ -9,7 +9,7 @@ ghost use Rattle.dock.specs.Found.{FoundOf};
 ghost use Rattle.dock.specs.Does.{Does, DoesAlone, DoesOver, Carries, CarriesAlone, CarriesOver, StartsAlone, Ran, shut_state, book_of, world};
 
 use crate::lines::run;
-use crate::{Book, Collected, Dock, Found, Left, Receipt};
+use crate::{Book, Collected, Dock, Left, Receipt};
 use dock_rules::{Abandoned, Attempt, BayRecord, DockState, Line, Outcome, Refusal, Stepped};
 use slot_memory::{BAYS, Bay, SlotMemory};
 
@@ -131,7 +131,7 @@ impl<M: SlotMemory> Dock<M> {
         ensures out { CollectedOut self.new.state result }
         ensures stays { Stays self.old.state self.new.state }
     {
-        let Found::Ended(outcome) = self.call_of(bay, serial)? else {
+        let Stepped::Ended(outcome) = self.call_of(bay, serial)? else {
             return Err(Refusal::Early);
         };
         let (after, collected) = match outcome {
@@ -157,7 +157,7 @@ impl<M: SlotMemory> Dock<M> {
         ensures out { LeftOut self.new.state result }
         ensures stays { Stays self.old.state self.new.state }
     {
-        let Found::UnderWay(line) = self.call_of(bay, serial)? else {
+        let Stepped::At(line) = self.call_of(bay, serial)? else {
             return Err(Refusal::Late);
         };
         let (after, left) = match left_at(line) {
@@ -174,6 +174,7 @@ impl<M: SlotMemory> Dock<M> {
 
     /// Copies the element of the receipt's tray to the end of the book, and frees the bay. A refused
     /// receipt is given back.
+    // In a pair: a struct for it would be taken apart by every caller at once.
     pub fn enter(
         &mut self,
         receipt: Receipt,
@@ -277,14 +278,14 @@ impl<M: SlotMemory> Dock<M> {
         Ok(serial)
     }
 
-    // The bay's call of that serial.
-    fn call_of(&self, bay: Bay, serial: u32) -> Result<Found, Refusal>
+    // Where the bay's call of that serial stands, or how it has ended.
+    fn call_of(&self, bay: Bay, serial: u32) -> Result<Stepped, Refusal>
         ensures { FoundOf self.now.state bay serial result }
     {
         self.check_open()?;
         match self.record(bay)? {
-            BayRecord::UnderWay(call) if call.serial == serial => Ok(Found::UnderWay(call.line)),
-            BayRecord::Ended(of, outcome) if of == serial => Ok(Found::Ended(outcome)),
+            BayRecord::UnderWay(call) if call.serial == serial => Ok(Stepped::At(call.line)),
+            BayRecord::Ended(of, outcome) if of == serial => Ok(Stepped::Ended(outcome)),
             _ => Err(Refusal::Serial),
         }
     }

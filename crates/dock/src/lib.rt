@@ -5,7 +5,7 @@
 ghost use Rattle.std.specs.Prelude.{◌≡◌, ◌≤◌, length};
 ghost use Rattle.dock_rules.specs.Calls.{most_bays};
 
-use dock_rules::{DockState, Line, Outcome};
+use dock_rules::DockState;
 use slot_memory::{Bay, SlotMemory};
 
 mod calls;
@@ -42,6 +42,7 @@ pub struct Book<'a, E: Copy> {
 }
 
 /// How a collected call ended.
+// No `Outcome` over the receipt: every step and table of the rules would then write a take's end with `()`.
 pub enum Collected {
     /// A put found the ring full.
     Full,
@@ -54,6 +55,7 @@ pub enum Collected {
 }
 
 /// What became of a call that was given up.
+// No `Abandoned` over the receipt, as `Collected` is no `Outcome` over it.
 pub enum Left {
     /// The call has changed no slot, and never will.
     Untouched,
@@ -61,14 +63,4 @@ pub enum Left {
     Stored,
     /// The take's element lies in the tray, and this is its receipt.
     Taken(Receipt),
-}
-
-/// A bay's call of a given serial.
-// No `Result`: neither of the two is an error of its own, collect asks for the one and abandon for the other.
-#[derive(Clone, Copy)]
-pub(crate) enum Found {
-    /// It stands at this line.
-    UnderWay(Line),
-    /// It has ended and is not collected.
-    Ended(Outcome),
 }
