@@ -1,12 +1,12 @@
 -- Marks, trays and records of one bay and of the others, after one of them is changed. Assumes nothing.
-use Rattle.std.proofs.Common.{◌≡◌, ℕ, ◌<◌, true, cond, eqb, List, map, length, get_or, set, is_some, Some, None, Option, sym, refl, ap, ◌∙◌, arith}
+use Rattle.std.proofs.Common.{◌≡◌, ℕ, ◌<◌, true, eqb, List, map, length, get_or, set, is_some, Some, None, Option, refl, ap, ◌∙◌, arith}
 use Rattle.std.specs.List.{slice_get}
 use Rattle.std.proofs.Math.ListN.{get_or-map}
 use Rattle.std.proofs.lemmas.Grind.{common_steps}
 use Rattle.std.proofs.lemmas.Option.{gets}
 use Rattle.std.specs.Option.{option_map}
 use Rattle.std.proofs.lemmas.List.{get_or-set_same, get_or-set_other, length-map}
-use Rattle.std.proofs.lemmas.Bool.{cond-true, cond-false, eq-eqb, ne_eqb}
+use Rattle.std.proofs.lemmas.Bool.{cond-true, eq-eqb}
 use Rattle.slot_memory.specs.declared.Cell.{Cell}
 use Rattle.slot_memory.specs.declared.Index.TheVariants.{Tail, Head}
 use Rattle.slot_memory.specs.Meaning.{Meaning, mark, unless_on}
@@ -72,10 +72,6 @@ module _ {E : Type 0} (b now : ℕ) (count : Side → ℕ) (run : ℕ → Option
   About (Stops c o) = c ≡ b
   About (Gives c a) = c ≡ b
   About Quiet = Unit {0}
-
-  -- the test of bay b fails at every other bay
-  away : {A : Type 0} (c e : ℕ) (x y : A) → e ≡ b → (c ≡ b → ⊥) → cond (eqb e c) x y ≡ y
-  away c e x y same n = cond-false (eqb e c) x y (ne_eqb e c (λ k. n (sym k ∙ same)))
 
   -- an event about bay b leaves the call of every other bay
   pub runs_other : (ev : Event E) (c : ℕ) → About ev → (c ≡ b → ⊥) → running_after ev c now count (run c) ≡ run c

@@ -30,10 +30,6 @@ module _ {E : Type 0} where
       go true = omega arith
       go false = omega arith
 
-  -- a call is among those that it heads
-  pub hits_own : (w : Running E) (ws : List (Running E)) → 0 < hits w.serial (w ∷ ws)
-  hits_own w ws = omega (arith, cond-true {A = ℕ} (eqb w.serial w.serial) 1 0 (eq-eqb _ _ refl))
-
   module _ (st : Start) (v : View E) (s : State E) (once : (x : ℕ) → weight st.bays v s x ≤ cond (leb x s.dock.started) 1 0) where
     -- a call that waits has no place yet, since it weighs one already
     pub waits_weigh : (d : Side) (w : Running E) → wait v d ≡ w ∷ [] → (places w.serial v.ps ≡ []) × (0 < weight st.bays v s w.serial)
