@@ -1,5 +1,5 @@
 -- Which words are numbers, as `parse` reads them. Assumes nothing.
-use Rattle.std.proofs.Common.{◌≡◌, ℕ, ◌+◌, ◌-◌, ◌*◌, ◌^◌, ◌<◌, ◌≤◌, Bool, true, false, cond, ◌&&◌, ltb, leb, List, [], ◌∷◌, length, Some, None, Ok, Err, Option, Result, MatchResult, Bor, sym, refl, ap, ◌∙◌, arith, rules}
+use Rattle.std.proofs.Common.{◌≡◌, ℕ, ◌+◌, ◌-◌, ◌*◌, ◌^◌, ◌<◌, ◌≤◌, Bool, true, false, cond, ◌&&◌, ltb, leb, List, [], ◌∷◌, length, Some, None, Ok, Err, Option, Result, sym, refl, ◌∙◌, arith, rules}
 use Rattle.std.specs.Char.{is_ascii_digit}
 use Rattle.std.specs.List.{list_all}
 use Rattle.std.specs.Result.{OkIff, result_ok}
@@ -56,23 +56,9 @@ module _ (w : List ℕ) where
       value : value_from 0 w ≡ Some (read_on 0 w)
       value = value_is 0 w ∙ cond-true _ _ _ d
 
-      within : 0 < length w → at_most most_number (Some (read_on 0 w)) ≡ number_of w
-      within h =
-          let t : (ltb 0 (length w) && leb (length w) 10) ≡ true = grind (arith, nat_tests) in
-          sym (cond-true _ _ _ t ∙ ap (at_most most_number) value)
-
       go : (r : Result ℕ E) → OkIff r ((0 < length w) × (read_on 0 w < 2 ^ 32)) (read_on 0 w) → result_ok r ≡ number_of w
-      go (Ok x) told =
-          let small : leb (read_on 0 w) 4294967295 ≡ true = let h = told.0.1 in grind (arith, nat_tests) in
-          ap Some told.1 ∙ sym (cond-true _ _ _ small) ∙ within told.0.0
-      go (Err e) told = none (ltb 0 (length w)) refl
-        where
-          none : (b : Bool) → ltb 0 (length w) ≡ b → None ≡ number_of w
-          none true h =
-              let some : 0 < length w = grind (arith, nat_tests) in
-              let large : leb (read_on 0 w) 4294967295 ≡ false = grind (arith, nat_tests, told) in
-              sym (cond-false _ _ _ large) ∙ within some
-          none false h = let t : (ltb 0 (length w) && leb (length w) 10) ≡ false = grind (arith, nat_tests) in sym (cond-false _ _ _ t)
+      go (Ok x) told = rw value (grind (arith, nat_tests))
+      go (Err e) told = rw value (grind (arith, nat_tests))
 
 -- digits are ASCII
 pub digits_utf8 : (w : List ℕ) → digits w ≡ true → IsUtf8 w
@@ -81,19 +67,3 @@ digits_utf8 w d = IsUtf8-from_ascii w (ascii w d)
     ascii : (w : List ℕ) → digits w ≡ true → IsAscii w
     ascii [] d = IsAscii-nil
     ascii (b ∷ bs) d = let f = first_digit b bs d in let small : b < 128 = grind (arith, nat_tests) in IsAscii-cons b bs small (ascii bs f.1)
-
--- what `from_utf8` answers of a word, as an option
-module _ {E : Type 0} (w : List ℕ) (Q : E → Type 0) (r : Result (Bor (List ℕ)) E) where
-  pub no_text : result_ok r ≡ None → MatchResult r (λ s. (s.now ≡ w) × IsUtf8 w) (λ e. ¬ (IsUtf8 w) × Q e) → ¬ (IsUtf8 w)
-  no_text none told = go r none told
-    where
-      go : (r : Result (Bor (List ℕ)) E) → result_ok r ≡ None → MatchResult r (λ s. (s.now ≡ w) × IsUtf8 w) (λ e. ¬ (IsUtf8 w) × Q e) → ¬ (IsUtf8 w)
-      go (Ok s) none told = let z : ◌≡◌ {A = ℕ} 0 1 = cc in absurd (omega arith)
-      go (Err e) none told = told.0
-
-  pub its_text : {s : Bor (List ℕ)} → result_ok r ≡ Some s → MatchResult r (λ s. (s.now ≡ w) × IsUtf8 w) (λ e. ¬ (IsUtf8 w) × Q e) → s.now ≡ w
-  its_text {s} some told = go r some told
-    where
-      go : (r : Result (Bor (List ℕ)) E) → result_ok r ≡ Some s → MatchResult r (λ s. (s.now ≡ w) × IsUtf8 w) (λ e. ¬ (IsUtf8 w) × Q e) → s.now ≡ w
-      go (Ok t) some told = let same : t ≡ s = cc in ap (λ (x : Bor (List ℕ)). x.now) (sym same) ∙ told.0
-      go (Err e) some told = let z : ◌≡◌ {A = ℕ} 0 1 = cc in absurd (omega arith)
