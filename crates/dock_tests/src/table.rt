@@ -17,11 +17,12 @@ pub(crate) enum Act<E: Copy> {
     Step(Bay, Result<Stepped, Refusal>),
 }
 
-/// Where a test stands, for the message of an answer that is another.
+/// Where a test stands, for the message of an answer that is another: the table and its
+/// elements, the memory, and the number of the call.
 #[derive(Drop)]
 struct Judge<'a, R: Abort> {
     rt: &'a R,
-    elements: &'static str,
+    name: &'static str,
     memory: &'static str,
     call: usize,
 }
@@ -30,16 +31,12 @@ impl<R: Abort> Judge<'_, R> {
     // The test ends here unless the two are equal.
     fn same<T: Copy + PartialEq + Debug>(&self, got: T, due: T) {
         let Judge {
-            elements,
+            name,
             memory,
             call,
             ..
         } = self;
-        assert_eq!(self.rt;
-            got,
-            due,
-            "on {elements}, over the {memory} memory, call {call}"
-        );
+        assert_eq!(self.rt; got, due, "{name}, over the {memory} memory, call {call}");
     }
 
     fn make<M: SlotMemory>(
@@ -77,14 +74,14 @@ impl<R: Abort> Judge<'_, R> {
 /// answer is another is named in the message.
 pub(crate) fn over_both<E: Copy>(
     rt: &impl Abort,
-    elements: &'static str,
+    name: &'static str,
     slots: &mut [Option<E>],
     trays: &mut [E],
     acts: &[Act<E>],
 ) {
     let mut judge = Judge {
         rt,
-        elements,
+        name,
         memory: "mark",
         call: 0,
     };

@@ -75,10 +75,16 @@ fn rounds<E: Copy>(a: E, b: E) -> [Act<E>; 40] {
 
 #[test]
 fn one_slot(rt: HostRuntime) {
-    over_both(&rt, "words", &mut [Some(77)], &mut [0; 4], &rounds(5u32, 6));
     over_both(
         &rt,
-        "visits",
+        "rounds of words",
+        &mut [Some(77)],
+        &mut [0; 4],
+        &rounds(5u32, 6),
+    );
+    over_both(
+        &rt,
+        "rounds of visits",
         &mut [Some(LATE)],
         &mut [LATE; 4],
         &rounds(EARLY, LATE),
@@ -102,7 +108,7 @@ fn shut<E: Copy>(a: E) -> [Act<E>; 9] {
 
 #[test]
 fn refused_while_shut(rt: HostRuntime) {
-    over_both(&rt, "words", &mut [Some(77); 8], &mut [0; 4], &shut(5u32));
+    over_both(&rt, "shut", &mut [Some(77); 8], &mut [0; 4], &shut(5u32));
 }
 
 #[test]
@@ -111,8 +117,14 @@ fn lengths_refused(rt: HostRuntime) {
         Open(0, 0, 7, Err(Refusal::Length)),
         Take(0, Err(Refusal::Shut)),
     ];
-    over_both(&rt, "words", &mut [Some(77u32); 3], &mut [0], &refused);
-    over_both(&rt, "words", &mut [], &mut [0u32], &refused);
+    over_both(
+        &rt,
+        "three slots",
+        &mut [Some(77u32); 3],
+        &mut [0],
+        &refused,
+    );
+    over_both(&rt, "no slots", &mut [], &mut [0u32], &refused);
 }
 
 #[test]
@@ -129,8 +141,8 @@ fn trays_counted(rt: HostRuntime) {
         Put(0, 1u32, Err(Refusal::Trays)),
         Step(0, Err(Refusal::Trays)),
     ];
-    over_both(&rt, "words", &mut [None; 2], &mut [0; 4], &few);
-    over_both(&rt, "words", &mut [None; 2], &mut [0; 4], &many);
+    over_both(&rt, "few trays", &mut [None; 2], &mut [0; 4], &few);
+    over_both(&rt, "many trays", &mut [None; 2], &mut [0; 4], &many);
 }
 
 #[test]
@@ -144,5 +156,5 @@ fn worn_out(rt: HostRuntime) {
         Take(1, Err(Refusal::Worn)),
         Put(1, 9, Err(Refusal::Worn)),
     ];
-    over_both(&rt, "words", &mut [None; 2], &mut [0; 2], &acts);
+    over_both(&rt, "worn out", &mut [None; 2], &mut [0; 2], &acts);
 }
