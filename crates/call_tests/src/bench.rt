@@ -11,7 +11,8 @@ use std::process::Abort;
 // More steps than any call of the tests takes.
 const PATIENCE: usize = 64;
 
-/// The caller's trays, of which so many are handed over.
+/// The caller's trays, of which so many are handed over: a count of its own, since a table lowers it and
+/// raises it again.
 #[derive(Drop)]
 struct Trays<E: Copy> {
     all: Vec<E>,

@@ -18,7 +18,8 @@ pub(crate) enum Act<E: Copy> {
 }
 
 /// Where a test stands, for the message of an answer that is another: the table and its
-/// elements, the memory, and the number of the call.
+/// elements, the memory, and the number of the call. Each crate of tests has its own: what a crate has for
+/// its tests alone no other crate can use.
 #[derive(Drop)]
 struct Judge<'a, R: Abort> {
     rt: &'a R,

@@ -18,7 +18,8 @@ pub(crate) enum Step<E: Copy> {
     Store(Bay, Index, u32, Stored),
 }
 
-/// Where a test stands, for the message of a reply that is another.
+/// Where a test stands, for the message of a reply that is another. Each crate of tests has its own: what
+/// a crate has for its tests alone no other crate can use.
 #[derive(Drop)]
 struct Judge<'a, R: Abort> {
     rt: &'a R,

@@ -125,7 +125,8 @@ static OFFERS: [Offer; 11] = [
     },
 ];
 
-// The receipt of bay 1 and serial 2 is offered; then it is waived at home, where a new call starts.
+// The receipt of bay 1 and serial 2 is offered; then it is waived at home, where a new call starts. A
+// message names the elements and the memory at home.
 fn offered<M: SlotMemory + Drop, N: SlotMemory + Drop>(
     judge: &mut Judge<'_, impl Abort + AllocGlobal>,
     home: M,
@@ -174,7 +175,8 @@ fn refused_by_another_dock(rt: HostRuntime) -> Result<(), AllocError> {
 }
 
 // Two docks with a receipt of bay 1 and serial 2 each: either takes the other's for its own, and is
-// free then. What is entered at a dock is the element of that dock's tray.
+// free then. What is entered at a dock is the element of that dock's tray. A message names the elements
+// and the memory of the one.
 fn exchanged<M: SlotMemory + Drop, N: SlotMemory + Drop>(
     judge: &mut Judge<'_, impl Abort + AllocGlobal>,
     one: M,

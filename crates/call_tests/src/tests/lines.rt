@@ -21,7 +21,8 @@ enum Way {
 }
 
 // A line; how many steps of a call lead to it, alone or beside a call that was held at line 16; and
-// what becomes of a call that is given up there.
+// what becomes of a call that is given up there. A tuple, since a row with its fields' names would take
+// six lines.
 type Held = (Line, usize, bool, Abandoned);
 
 static PUTS: [Held; 9] = [
