@@ -88,6 +88,7 @@ impl<'a, E: Copy> SlotMemory for Board<'a, E> {
         }
     }
 
+    // With clauses, which the check can't take from the trait for a parameter that is an `Option` of its element.
     fn store_slot(&mut self, bay: Bay, slot: u32, content: Option<E>) -> Stored
         ensures rules { Keeps (limit_of self.old) (meaning_of self.old) (Store bay (InSlot slot content)) (Verdict result) (meaning_of self.new) }
         ensures exact { Plays self.old (Store bay (InSlot slot content)) (Verdict result) self.new }

@@ -6,24 +6,17 @@ use Rattle.dock_rules.specs.declared.DockState.{DockState}
 use Rattle.dock_rules.specs.declared.Refusal.{Refusal}
 use Rattle.dock.specs.declared.Receipt.{Receipt}
 use Rattle.dock.specs.declared.Collected.{Collected}
-use Rattle.dock.specs.declared.Collected.TheVariants as collected
 use Rattle.dock.specs.declared.Left.{Left}
-use Rattle.dock.specs.declared.Left.TheVariants as left
-use Rattle.dock.specs.Answered.{Out, Stays}
+use Rattle.dock.specs.Answered.{Out, Stays, collected_receipt, left_receipt}
 
 -- the receipt that a collect hands out
 abbrev pub receipt_of_collect : Result Collected Refusal → Option Receipt
-receipt_of_collect (Ok collected.Full) = None
-receipt_of_collect (Ok collected.Stored) = None
-receipt_of_collect (Ok collected.Empty) = None
-receipt_of_collect (Ok (collected.Taken x)) = Some x
+receipt_of_collect (Ok c) = collected_receipt c
 receipt_of_collect (Err r) = None
 
 -- an abandon
 abbrev pub receipt_of_abandon : Result Left Refusal → Option Receipt
-receipt_of_abandon (Ok left.Untouched) = None
-receipt_of_abandon (Ok left.Stored) = None
-receipt_of_abandon (Ok (left.Taken x)) = Some x
+receipt_of_abandon (Ok l) = left_receipt l
 receipt_of_abandon (Err r) = None
 
 -- and the one that an enter or a waive gives back

@@ -18,14 +18,19 @@ impl From<Result<Collected, Refusal>> for Reply<Outcome> {
     ghost from_gives = { λ collected reply. reply.receipt ≡ receipt_of_collect collected };
 
     fn from(collected: Result<Collected, Refusal>) -> Reply<Outcome> {
-        let (answer, receipt) = match collected {
-            Ok(Collected::Full) => (Ok(Outcome::Full), None),
-            Ok(Collected::Stored) => (Ok(Outcome::Stored), None),
-            Ok(Collected::Empty) => (Ok(Outcome::Empty), None),
-            Ok(Collected::Taken(receipt)) => (Ok(Outcome::Taken), Some(receipt)),
-            Err(refusal) => (Err(refusal), None),
-        };
-        Reply { answer, receipt }
+        match collected {
+            Ok(collected) => {
+                let (outcome, receipt) = collected.into_parts();
+                Reply {
+                    answer: Ok(outcome),
+                    receipt,
+                }
+            }
+            Err(refusal) => Reply {
+                answer: Err(refusal),
+                receipt: None,
+            },
+        }
     }
 }
 
@@ -33,13 +38,19 @@ impl From<Result<Left, Refusal>> for Reply<Abandoned> {
     ghost from_gives = { λ left reply. reply.receipt ≡ receipt_of_abandon left };
 
     fn from(left: Result<Left, Refusal>) -> Reply<Abandoned> {
-        let (answer, receipt) = match left {
-            Ok(Left::Untouched) => (Ok(Abandoned::Untouched), None),
-            Ok(Left::Stored) => (Ok(Abandoned::Stored), None),
-            Ok(Left::Taken(receipt)) => (Ok(Abandoned::Taken), Some(receipt)),
-            Err(refusal) => (Err(refusal), None),
-        };
-        Reply { answer, receipt }
+        match left {
+            Ok(left) => {
+                let (abandoned, receipt) = left.into_parts();
+                Reply {
+                    answer: Ok(abandoned),
+                    receipt,
+                }
+            }
+            Err(refusal) => Reply {
+                answer: Err(refusal),
+                receipt: None,
+            },
+        }
     }
 }
 
@@ -73,10 +84,7 @@ fn waive<M: SlotMemory>(dock: &mut Dock<M>, receipt: Receipt)
     requires { Out dock.old.state receipt }
     ensures { StaysBut receipt.bay dock.old.state dock.new.state }
 {
-    match dock.waive(receipt) {
-        Ok(()) => {}
-        Err(_) => unreachable!(),
-    }
+    dock.waive(receipt).unwrap();
 }
 
 // Spends the receipt, if there is one.

@@ -3,16 +3,17 @@ ghost use Rattle.std.specs.Prelude.{◌≡◌, ◌<◌, map, length, replicate, 
 ghost use Rattle.cell_memory.specs.Marks.{accepts, struck};
 
 use crate::Marking;
-use slot_memory::{Bay, Cell};
+use slot_memory::{BAYS, Bay, Cell};
 
 /// For each bay its mark.
-// That there are 16 can't be a ghost field, as a cut in `Lent` can't be.
+// An array, since no call allocates. That it has 16 can't be a ghost field: the borrow checker covers no call whose
+// type argument holds a `&mut` and a struct with a ghost field, as a memory over lent slots would be.
 #[derive(Drop)]
 pub struct Marks<K: Copy> {
-    bays: [Option<K>; 16],
+    bays: [Option<K>; BAYS as usize],
 }
 
-// What an accepted store on the cell leaves of a bay's mark.
+// What an accepted store on the cell leaves of a bay's mark: apart from the loop, whose proof needs its result by name.
 fn strike<K: Marking>(mark: Option<K>, cell: Cell) -> Option<K>
     ensures { result ≡ struck K.Marking cell mark }
 {
@@ -24,7 +25,9 @@ impl<K: Marking> Marks<K> {
     pub(crate) fn new() -> Marks<K>
         ensures { result.bays ≡ replicate 16 None }
     {
-        Marks { bays: [None; 16] }
+        Marks {
+            bays: [None; BAYS as usize],
+        }
     }
 
     /// Moves the bay's mark to the cell.

@@ -81,6 +81,7 @@ impl<'a, E: Copy, K: Marking> SlotMemory for CellMemory<'a, E, K> {
         self.read(index)
     }
 
+    // With clauses, which the check can't take from the trait for a parameter that is an `Option` of its element.
     fn store_slot(&mut self, bay: Bay, slot: u32, content: Option<E>) -> Stored
         ensures rules { Keeps (most K.Marking) (meaning_of K.Marking self.old) (Store bay (InSlot slot content)) (Verdict result) (meaning_of K.Marking self.new) }
         ensures exact { Does K.Marking self.old (Store bay (InSlot slot content)) (Verdict result) self.new }

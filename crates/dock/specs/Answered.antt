@@ -1,6 +1,8 @@
 -- What a caller is answered, in the words of the rules. Assumes nothing.
 use Rattle.std.specs.Prelude.{◌≡◌, ℕ, ◌<◌, true, Some, None, Option, Ok, Err, Result, IfSome, IfOk, IfErr, OnErr, ◌≢◌}
+use Rattle.dock_rules.specs.declared.Outcome.{Outcome}
 use Rattle.dock_rules.specs.declared.Outcome.TheVariants.{Full, Stored, Empty, Taken}
+use Rattle.dock_rules.specs.declared.Abandoned.{Abandoned}
 use Rattle.dock_rules.specs.declared.Abandoned.TheVariants as away
 use Rattle.dock_rules.specs.declared.BayRecord.TheVariants.{Owed}
 use Rattle.dock_rules.specs.declared.DockState.{DockState}
@@ -63,6 +65,19 @@ Stays d e = (x : Receipt) → Out d x → Out e x
 -- but for that of this bay
 abbrev pub StaysBut : ℕ → DockState → DockState → Type 0
 StaysBut b d e = (x : Receipt) → (x.bay ≢ b) → Out d x → Out e x
+
+-- how a collected call ended, and what became of one that was given up, without the receipt
+
+abbrev pub collected_outcome : Collected → Outcome
+collected_outcome collected.Full = Full
+collected_outcome collected.Stored = Stored
+collected_outcome collected.Empty = Empty
+collected_outcome (collected.Taken x) = Taken
+
+abbrev pub left_abandoned : Left → Abandoned
+left_abandoned left.Untouched = away.Untouched
+left_abandoned left.Stored = away.Stored
+left_abandoned (left.Taken x) = away.Taken
 
 -- the receipt that is handed out
 

@@ -5,7 +5,7 @@
 ghost use Rattle.std.specs.Prelude.{◌≡◌, ◌≤◌, length};
 ghost use Rattle.dock_rules.specs.Calls.{most_bays};
 
-use dock_rules::DockState;
+use dock_rules::{Abandoned, DockState, Outcome};
 use slot_memory::{Bay, SlotMemory};
 
 mod calls;
@@ -63,4 +63,37 @@ pub enum Left {
     Stored,
     /// The take's element lies in the tray, and this is its receipt.
     Taken(Receipt),
+}
+
+impl Collected {
+    ghost use Rattle.dock.specs.Answered.{collected_outcome, collected_receipt};
+
+    /// How the call ended, and the receipt of a take.
+    pub fn into_parts(self) -> (Outcome, Option<Receipt>)
+        ensures outcome { result.0 ≡ collected_outcome self }
+        ensures receipt { result.1 ≡ collected_receipt self }
+    {
+        match self {
+            Collected::Full => (Outcome::Full, None),
+            Collected::Stored => (Outcome::Stored, None),
+            Collected::Empty => (Outcome::Empty, None),
+            Collected::Taken(receipt) => (Outcome::Taken, Some(receipt)),
+        }
+    }
+}
+
+impl Left {
+    ghost use Rattle.dock.specs.Answered.{left_abandoned, left_receipt};
+
+    /// What became of the call, and the receipt of a take.
+    pub fn into_parts(self) -> (Abandoned, Option<Receipt>)
+        ensures abandoned { result.0 ≡ left_abandoned self }
+        ensures receipt { result.1 ≡ left_receipt self }
+    {
+        match self {
+            Left::Untouched => (Abandoned::Untouched, None),
+            Left::Stored => (Abandoned::Stored, None),
+            Left::Taken(receipt) => (Abandoned::Taken, Some(receipt)),
+        }
+    }
 }

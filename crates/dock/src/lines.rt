@@ -9,7 +9,7 @@ use slot_memory::{Bay, Index, SlotMemory, Stored};
 fn slot_at(index: u32, length: u32) -> u32
     ensures { result ≡ index % length }
 {
-    if length == 0 { index } else { index % length }
+    index.checked_rem(length).unwrap_or(index)
 }
 
 // Runs the line at which the call stands.

@@ -58,7 +58,7 @@ pub enum Abandoned {
 }
 
 /// What a step answers.
-// No `ControlFlow`: at a line or ended is what callers print and compare, and `?` has no use for it.
+// No `ControlFlow`: at a line or ended is what callers print and compare, and none would use `?` on it.
 #[derive(Clone, Copy, Debug, PartialEq, Eq)]
 pub enum Stepped {
     At(Line),

@@ -3,7 +3,7 @@ ghost use Rattle.std.specs.Prelude.{◌<◌};
 ghost use Rattle.dock.specs.Answered.{Out};
 
 use crate::step::Step;
-use dock::{Book, Collected, Dock, Receipt};
+use dock::{Book, Dock, Receipt};
 use dock_rules::{Line, Outcome, Refusal, Stepped};
 use mark_memory::MarkMemory;
 use slot_memory::Bay;
@@ -129,20 +129,19 @@ impl<'a> Desk<'a> {
 
     /// Collects the reader's call; a take's visit goes into the book.
     pub(crate) fn collect(&mut self, reader: &Reader) -> Result<Closed, Refusal> {
-        // No `From` makes a `Closed` of a `Collected`, since the receipt in it is spent at the dock.
-        Ok(match self.dock.collect(reader.bay, reader.serial)? {
-            Collected::Full => Closed::Ended(Outcome::Full),
-            Collected::Empty => Closed::Ended(Outcome::Empty),
-            Collected::Stored => {
-                self.stored = self.stored.saturating_add(1);
-                Closed::Ended(Outcome::Stored)
-            }
-            Collected::Taken(receipt) => Closed::Taken(
+        let collected = self.dock.collect(reader.bay, reader.serial)?;
+        let (outcome, receipt) = collected.into_parts();
+        if outcome == Outcome::Stored {
+            self.stored = self.stored.saturating_add(1);
+        }
+        Ok(match receipt {
+            Some(receipt) => Closed::Taken(
                 self.settle(receipt).map(|()| Entry {
                     visit: self.trays[reader.bay as usize],
                     number: self.book.entered,
                 }),
             ),
+            None => Closed::Ended(outcome),
         })
     }
 }

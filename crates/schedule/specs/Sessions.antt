@@ -61,7 +61,7 @@ pub record Through (o : List ℕ) (i : ℕ) (s : Stage) (ls : List (List ℕ)) (
 abbrev pub Passes : Stage → Transcript → Stage → Transcript → Type 0
 Passes s x t y = Through (string_bytes x.out) (x.number + 1) s (lines_left x.schedule) (string_bytes y.out) (y.number + 1) t (lines_left y.schedule)
 
--- the lines of a session that starts at the desk, to the last
+-- the lines of a session that starts at the desk
 abbrev pub Ends : Session → Transcript → Transcript → Type 0
 Ends s x y = (d : Desk) → Stands d s → Driven d → Passes (At d) x NotOpen y
 

@@ -1,5 +1,6 @@
 // A text's commands, obeyed one after the other, and what is printed of them.
-ghost use Rattle.std.specs.Prelude.{◌≡◌, IfOk, string_bytes, OnOk};
+ghost use Rattle.std.specs.Prelude.{◌≡◌, [], IfOk, string_bytes, OnOk};
+ghost use Rattle.commands.specs.Commands.{lines_left};
 ghost use Rattle.schedule.specs.Output.{NotOpen, opening, responds, output_of, LawfulText};
 ghost use Rattle.schedule.specs.Sessions.{Opens, Ends};
 
@@ -21,7 +22,8 @@ const BOOK_LENGTH: usize = 64;
 impl Transcript<'_> {
     // Answers the lines that are left on an open dock.
     fn heed_all(&mut self, session: &mut Session<'_>) -> Result<(), AllocError>
-        ensures { OnOk result (Ends session.old self.old self.new) }
+        ensures lines { OnOk result (lines_left self.new.schedule ≡ []) }
+        ensures through { OnOk result (Ends session.old self.old self.new) }
     {
         // No `for`, which would hold the transcript while the body prints to it.
         while let Some(read) = self.read() {

@@ -7,7 +7,7 @@ ghost use Rattle.schedule.specs.Sessions.{game_of};
 use crate::Response;
 use board::Board;
 use dock::{Book, Dock};
-use slot_memory::Bay;
+use slot_memory::{BAYS, Bay};
 
 mod calls;
 mod ended;
@@ -20,7 +20,7 @@ pub(crate) struct Session<'a> {
     trays: Vec<u32>,
     book: Book<'a, u32>,
     /// For each bay the serial of its last started call; 0 before the first.
-    last: [u32; 16],
+    last: [u32; BAYS as usize],
 }
 
 impl<'a> Session<'a> {
@@ -33,7 +33,7 @@ impl<'a> Session<'a> {
             dock: Dock::new(board),
             trays,
             book: Book { row, entered: 0 },
-            last: [0; 16],
+            last: [0; BAYS as usize],
         }
     }
 

@@ -7,14 +7,15 @@ ghost use Rattle.slot_memory.specs.Lent.{contents, used};
 const MOST: usize = 1025;
 
 /// A row of slots, lent by the caller.
-// That the row is cut to its first 1,025 slots can't be a ghost field: the borrow checker covers no call whose
-// type argument holds a `&mut` and a struct with one, and so no dock over a memory over it.
+// That the row is cut to its first 1,025 slots can't be a ghost field here: the borrow checker covers no call
+// whose type argument holds a `&mut` and a struct with a ghost field, and so no dock over such a memory.
 #[derive(Drop)]
 pub struct Lent<'a, E: Copy> {
     /// The whole row; only the first 1,025 count.
     row: &'a mut [Option<E>],
 }
 
+// A function of its own, since the check leaves the bounds of `self.row[..]` in a generic struct open.
 fn write<E: Copy>(row: &mut [Option<E>], i: usize, content: Option<E>)
     requires { i < length row.old }
     ensures { row.new ≡ slice_set row.old i content }
@@ -22,7 +23,7 @@ fn write<E: Copy>(row: &mut [Option<E>], i: usize, content: Option<E>)
     row[i] = content;
 }
 
-// Empties the first slots, up to `end`.
+// Empties the first slots, up to `end`; apart for the same reason.
 fn empty<E: Copy>(row: &mut [Option<E>], end: usize)
     requires { end ≤ length row.old }
     ensures { row.new ≡ replicate end None ++ drop end row.old }

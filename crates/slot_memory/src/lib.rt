@@ -37,7 +37,7 @@ pub enum Cell {
 }
 
 /// What a store answers.
-// No `Result`: a refused store is no error, and nobody has to look at it.
+// No `Result`: a refused store is no error, but an answer after which a line goes another way.
 #[derive(Clone, Copy, Debug, PartialEq, Eq)]
 pub enum Stored {
     /// The cell is written, and every mark on it is gone.

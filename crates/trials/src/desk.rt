@@ -1,6 +1,6 @@
 // The desk of a dock's caller, and the calls that are made from it.
 use board::{Board, BoardKind};
-use dock::{Collected, Dock, Left};
+use dock::Dock;
 use dock_rules::{Abandoned, Line, Outcome, Refusal, Stepped};
 use slot_memory::Bay;
 use std::fmt;
@@ -129,14 +129,13 @@ impl Desk<'_> {
 
     // Takes steps until the call stands at the line, or has ended, or takes too long.
     fn run(&mut self, call: &mut Call, until: Option<Line>) -> Result<Answer, Refusal> {
-        let mut answer = self.step(call)?;
         for _ in 1..PATIENCE {
-            match answer {
-                Answer::Stands(line, _) if until != Some(line) => answer = self.step(call)?,
-                _ => break,
+            match self.step(call)? {
+                Answer::Stands(line, _) if until != Some(line) => {}
+                answer => return Ok(answer),
             }
         }
-        Ok(answer)
+        self.step(call)
     }
 
     /// Takes steps until the call stands at the line.
@@ -151,24 +150,20 @@ impl Desk<'_> {
 
     /// Collects the call; a take's receipt is waived.
     pub(crate) fn collect(&mut self, call: Call) -> Result<(), Refusal> {
-        match self.dock.collect(call.bay, call.serial)? {
-            Collected::Full | Collected::Stored | Collected::Empty => {}
-            Collected::Taken(receipt) => self.dock.waive(receipt).unwrap(),
+        let (_, receipt) = self.dock.collect(call.bay, call.serial)?.into_parts();
+        if let Some(receipt) = receipt {
+            self.dock.waive(receipt).unwrap();
         }
         Ok(())
     }
 
     /// Abandons the call; a take's receipt is waived.
     pub(crate) fn abandon(&mut self, call: Call) -> Result<Abandoned, Refusal> {
-        // No `From` makes an `Abandoned` of a `Left`, since the receipt in it is spent at the dock.
-        Ok(match self.dock.abandon(call.bay, call.serial)? {
-            Left::Untouched => Abandoned::Untouched,
-            Left::Stored => Abandoned::Stored,
-            Left::Taken(receipt) => {
-                self.dock.waive(receipt).unwrap();
-                Abandoned::Taken
-            }
-        })
+        let (abandoned, receipt) = self.dock.abandon(call.bay, call.serial)?.into_parts();
+        if let Some(receipt) = receipt {
+            self.dock.waive(receipt).unwrap();
+        }
+        Ok(abandoned)
     }
 }
 

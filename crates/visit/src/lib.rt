@@ -19,9 +19,10 @@ impl fmt::Display for Visit {
     ghost output = { λ v. Some (written v) };
 
     fn fmt<W: fmt::Write>(&self, f: &mut fmt::Formatter<W>) -> fmt::Result {
-        let guard = self.guard;
-        let checkpoint = self.checkpoint;
-        let minute = self.minute;
-        write!(f, "guard {guard} at {checkpoint}, minute {minute}")
+        write!(
+            f,
+            "guard {} at {}, minute {}",
+            self.guard, self.checkpoint, self.minute
+        )
     }
 }

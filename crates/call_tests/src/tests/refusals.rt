@@ -78,18 +78,20 @@ static RIGHT_LENGTH: Table = Table {
 // The number of slots is the row's number in messages.
 #[test]
 fn lengths(rt: HostRuntime) -> Result<(), AllocError> {
-    for slots in [0, 3, 5, 6, 7, 1025] {
+    for (slots, trays) in [(0, 1), (3, 1), (5, 1), (6, 1), (7, 1), (1025, 0)] {
         let table = Table {
             number: slots,
             slots,
+            trays,
             ..WRONG_LENGTH
         };
         table.run(&rt)?;
     }
-    for slots in [1, 2, 4, 8, 1024] {
+    for (slots, trays) in [(1, 1), (2, 1), (4, 1), (8, 1), (1024, 0)] {
         let table = Table {
             number: slots,
             slots,
+            trays,
             ..RIGHT_LENGTH
         };
         table.run(&rt)?;
