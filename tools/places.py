@@ -83,10 +83,11 @@ def travelling():
 POINTS = {
     "1 own enums": lines(r"^\s*(pub(\(crate\))? )?enum "),
     "1 flags in structs": lines(r"^\s+(pub(\(crate\))? )?\w+: bool,"),
-    "1 numbers for kinds, and answers without their reason": lines(r"fn (number|code)\(self\) -> u|-> \(Result<|Result<\(\), \(|is_ok\(\), true|unwrap_or\(0\)|-> u8$"),
+    "1 numbers for kinds, and answers without their reason": lines(r"fn (number|code)\(self\) -> u|-> \(Result<|-> Result<\(\), \(|is_ok\(\), true|unwrap_or\(0\)|-> u8$"),
     "2 runs of six lines that stand twice": alike(6),
     "3 loops": lines(r"^\s*(for .* in |while )"),
-    "4 equality, conversion and printing by hand": lines(r"fn (is|number|text|word|words|eq|cmp|partial_cmp|clone|from|try_from)\(|impl.* (fmt::)?(Display|Debug|PartialEq|Ord|Clone|From)\b.* for "),
+    "4 equality, conversion and printing by hand": lines(r"fn (is|number|text|word|words|eq|cmp|partial_cmp|clone)\(|impl.* (Debug|PartialEq|Ord|Clone)\b.* for "),
+    "4 impls of Display, From, TryFrom and FromStr": lines(r"impl.*\b(Display|From|TryFrom|FromStr)\b.* for "),
     "5 clauses in three contracts or more": repeated_clauses(),
     "5 parameters that travel together": travelling(),
     "6 arrays, lengths and indices kept by hand": lines(r"^\s+(pub(\(crate\))? )?\w+: (&'a mut )?\[.*\],|^\s+(pub(\(crate\))? )?\w+: usize,"),

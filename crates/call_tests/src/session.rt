@@ -172,7 +172,8 @@ impl<M: SlotMemory> Session<M> {
     }
 
     /// Enters the receipt in hand, in a book of this row with so many entered. A refused one is in hand
-    /// again. (A `Book` that is made of a bench's fields, or kept there, gets no proof.)
+    /// again.
+    // A row and a count, since the check has no rule for a `Book` that is made of the bench's fields or kept there.
     pub(crate) fn enter(
         &mut self,
         trays: &[M::Element],

@@ -10,9 +10,9 @@ use std::alloc::AllocError;
 use std::process::Abort;
 use visit::Visit;
 
-/// One call with the answer that is due, several in a row, or a look at what the caller keeps. It is data
-/// and no closure, since one table is run over both memories and on both kinds of element, and a closure
-/// would take one of these four alone.
+/// One call with the answer that is due, several in a row, or a look at what the caller keeps.
+// Data and no closure, since one table is run over both memories and on both kinds of element, and a closure
+// would take one of these four alone.
 #[derive(Clone, Copy)]
 pub(crate) enum Act {
     Open(Bay, u32, u32, Result<(), Refusal>),

@@ -17,7 +17,8 @@ pub(crate) enum Token<'a> {
     Number(u32),
 }
 
-/// Gives a line's tokens from the left. It is no `Split` of the library, whose closure each clause would have to name.
+/// Gives a line's tokens from the left.
+// No `Split` of the library, whose closure each clause would have to name.
 #[derive(Drop)]
 pub(crate) struct Lexer<'a> {
     /// What is left of the line, from the start of a word; nothing behind the last word.

@@ -15,6 +15,7 @@ use std::str::FromStr;
 const MOST_LENGTH: u32 = 1024;
 
 /// The first word of a line, which says what is to be done.
+// Apart from `Command`, so that the word is read in one `match` on text and the numbers in one that names every verb.
 #[derive(Clone, Copy)]
 pub(crate) enum Verb {
     Marks,
@@ -47,7 +48,8 @@ impl FromStr for Verb {
     }
 }
 
-// The verb that a word is. A word that is no UTF-8 is none. It is matched as text, since a `match` on bytes is a test a byte.
+// The verb that a word is. A word that is no UTF-8 is none. It is matched as text, since a `match` on bytes is a
+// test a byte.
 fn verb_of(word: &[u8]) -> Result<Verb, Fault>
     ensures { result ≡ ok_or (verb_of word.now) Fault.Command }
 {
@@ -69,13 +71,12 @@ impl Lexer<'_> {
         }
     }
 
-    // The next token, which has to be the number of a bay, or of bays: within `number`'s bound the cast loses nothing,
-    // and `try_from` would bring in a second bound.
+    // The next token, which has to be the number of a bay, or of bays.
     fn bay(&mut self) -> Result<Bay, Fault>
         ensures value { result ≡ ok_or (number_next most_bay (words_left self.old)) Fault.Number }
         ensures rest { words_left self.new ≡ others (words_left self.old) }
     {
-        Ok(self.number(u32::from(Bay::MAX))? as Bay)
+        Bay::try_from(self.number(u32::MAX)?).map_err(|_| Fault::Number)
     }
 
     // The command of a verb, with the numbers that follow it.

@@ -7,8 +7,8 @@ use slot_memory::{Bay, SlotMemory};
 use std::fmt::Debug;
 use std::process::Abort;
 
-/// One call, and the answer that is due. It is data and no closure, since one table is run over both
-/// memories, and a closure would take one of them alone.
+/// One call, and the answer that is due.
+// Data and no closure, since one table is run over both memories, and a closure would take one of them alone.
 #[derive(Clone, Copy)]
 pub(crate) enum Act<E: Copy> {
     Open(Bay, u32, u32, Result<(), Refusal>),

@@ -5,8 +5,8 @@ use slot_memory::{Bay, Index, SlotMemory, Stored};
 use std::fmt::Debug;
 use std::process::Abort;
 
-/// One operation, and the reply that is due. It is data and no closure, since one table is run over both
-/// memories, and a closure would take one of them alone.
+/// One operation, and the reply that is due.
+// Data and no closure, since one table is run over both memories, and a closure would take one of them alone.
 #[derive(Clone, Copy)]
 pub(crate) enum Step<E: Copy> {
     Clear(u32),

@@ -20,8 +20,9 @@ const LIFETIME: u32 = 1000;
 /// Where both indices begin.
 const BASE: u32 = 0;
 
-/// What a line of a schedule is answered. It names the ends of a call itself: with an `Outcome`, TAKEN would lack its
-/// element, and UNTOUCHED is none.
+/// What a line of a schedule is answered.
+// No `Result` over an `Outcome`: each variant is a line that is printed, a refusal and a fault like any other; an
+// `Outcome` has no element for TAKEN, and UNTOUCHED is none.
 #[derive(Clone, Copy, Debug, PartialEq, Eq)]
 pub enum Response {
     /// The dock is open.

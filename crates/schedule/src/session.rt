@@ -19,7 +19,8 @@ pub(crate) struct Session<'a> {
     dock: Dock<Board<'a, u32>>,
     trays: Vec<u32>,
     book: Book<'a, u32>,
-    /// For each bay the serial of its last started call; 0 before the first.
+    /// For each bay the serial of its last started call; 0 before the first, which collect and leave then ask for.
+    // An array beside the trays, which the dock is lent as a row; and no `Option`, since a text without a call asks for 0.
     last: [u32; BAYS as usize],
 }
 
@@ -37,7 +38,7 @@ impl<'a> Session<'a> {
         }
     }
 
-    // The element in the bay's tray; 0 where there is none.
+    // The element in the bay's tray; 0 where there is none, as the definition has it.
     fn tray(&self, bay: Bay) -> u32
         ensures { result ≡ slice_index self.now.trays.items bay }
     {

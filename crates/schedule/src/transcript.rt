@@ -12,8 +12,8 @@ pub(crate) struct Transcript<'a> {
     pub(crate) heap: Global,
     schedule: Schedule<'a>,
     out: String,
-    /// The number of the line that was read last; 0 before the first. It is kept for `print`, so that an `enumerate` of
-    /// the schedule would not spare it.
+    /// The number of the line that was read last; 0 before the first.
+    // No `enumerate` of the schedule, whose number would then be handed to each function on the way to `print`.
     number: u32,
     ghost fits: { number + length (lines_left schedule) < 2 ^ 32 },
 }

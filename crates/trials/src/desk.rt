@@ -112,6 +112,7 @@ impl Desk<'_> {
         Ok(match stepped {
             Stepped::At(line) => Answer::Stands(line, call.steps),
             Stepped::Ended(Outcome::Taken) => {
+                // 0 is never told: the dock has refused the step of a bay that has no tray.
                 let element = self.trays.get(call.bay as usize).copied().unwrap_or(0);
                 Answer::Taken(element, call.steps)
             }

@@ -1,3 +1,4 @@
+-- An answer for each way out of a line, which names the reply: the check does not choose it. Assumes nothing.
 use Rattle.std.proofs.Common.{refl, rules}
 use Rattle.std.proofs.lemmas.Option.{slice_get_read}
 use Rattle.slot_memory.specs.Rules.{Number, Content, Verdict}
