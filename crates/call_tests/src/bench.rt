@@ -31,6 +31,7 @@ impl<E: Copy> Trays<E> {
 #[derive(Drop)]
 pub(crate) struct Desk<E: Copy> {
     trays: Trays<E>,
+    // A row and a count, of which a call's `Book` is made, since a book holds a borrow.
     row: Vec<E>,
     /// How many are entered in the book's row.
     entered: usize,
@@ -50,6 +51,7 @@ impl<E: Sample> Desk<E> {
 }
 
 /// A dock with its caller, and what the caller keeps.
+// The judge is handed to the methods: the check has no rule for a struct of this kind that holds a borrow.
 pub(crate) struct Bench<M: SlotMemory> {
     session: Session<M>,
     desk: Desk<M::Element>,

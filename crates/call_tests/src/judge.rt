@@ -6,6 +6,7 @@ use std::process::Abort;
 
 /// Where a test stands, for the message of an answer that is another: the row of its table, the
 /// elements, the memory, and the number of the call.
+// Each crate of tests has a judge of its own: a library could hold none, since no code outside tests may end the process.
 #[derive(Drop)]
 pub(crate) struct Judge<'a, R: Abort> {
     pub(crate) rt: &'a R,

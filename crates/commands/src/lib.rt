@@ -9,6 +9,7 @@ mod lexer;
 mod parse;
 
 /// What a line of a schedule asks for. A *bay* is one of the dock's, by number.
+// The two opens are two commands of a text, and no kind of board is known here.
 #[derive(Clone, Copy, Debug, PartialEq, Eq)]
 pub enum Command {
     /// Opens a dock of so many bays over a mark memory with so many slots.

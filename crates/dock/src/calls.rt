@@ -1,5 +1,6 @@
 // The calls on a dock. Each is turned down for the first reason that applies, in the order of
-// `Refusal`, and then alters nothing.
+// `Refusal`, and then alters nothing. The clauses `kept`, `fixed` and `stays` stand in each call: they tie the dock
+// before it to the dock after it, which no type does. Bay and serial are two parameters, as callers note them.
 ghost use Rattle.std.specs.Prelude.{◌≡◌, ◌+◌, ◌<◌, true, [], ◌∷◌, length, is_ok, MatchResult, OnErr};
 ghost use Rattle.slot_memory.specs.Rules.{Clear, Done};
 ghost use Rattle.dock_rules.specs.Calls.{Open, Put, Take, Step, Collect, Abandon, Enter, Waive, good_length, record_of, left_at};
@@ -134,6 +135,7 @@ impl<M: SlotMemory> Dock<M> {
         let Stepped::Ended(outcome) = self.call_of(bay, serial)? else {
             return Err(Refusal::Early);
         };
+        // A match of its own here and in `abandon`: each answers its own words, of which one has the receipt.
         let (after, collected) = match outcome {
             Outcome::Full => (BayRecord::Free, Collected::Full),
             Outcome::Stored => (BayRecord::Free, Collected::Stored),

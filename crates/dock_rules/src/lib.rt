@@ -148,6 +148,7 @@ impl From<Refusal> for u8 {
 
 impl Line {
     /// The line's label.
+    // The text of `Display`, for whoever wants it without a formatter.
     pub fn text(self) -> &'static str
         ensures { result.now ≡ label self }
     {

@@ -19,8 +19,8 @@ const LATE: Visit = Visit {
     ..EARLY
 };
 
-// A ring of one slot, four trays, and indices that come round. `call_tests` has these rows too, over its own
-// acts; they stay here as the first test of the dock.
+// A ring of one slot, four trays, and indices that come round. `call_tests` has these rows and those below too, over
+// its own acts; each test stays.
 fn rounds<E: Copy>(a: E, b: E) -> [Act<E>; 40] {
     [
         Open(4, 5, u32::MAX, Ok(())),

@@ -24,6 +24,7 @@ pub(crate) struct Reader {
 #[derive(Drop)]
 pub(crate) struct Desk<'a> {
     dock: Dock<MarkMemory<'a, Visit>>,
+    // A row beside the readers, since the dock is lent the trays as one.
     trays: [Visit; 2],
     pub(crate) book: Book<'a, Visit>,
     /// How many puts were collected as STORED.
@@ -114,7 +115,8 @@ impl<'a> Desk<'a> {
         Ok(Step { from, stepped })
     }
 
-    // Enters the receipt's visit in the book, or waives it where that is refused.
+    // Enters the receipt's visit in the book, or waives it where that is refused. No call of the dock does both, since
+    // it would be public and need the `requires`.
     fn settle(&mut self, receipt: Receipt) -> Result<(), Refusal>
         requires { Out self.old.dock.state receipt }
     {

@@ -12,7 +12,7 @@ pub(crate) struct Step {
 }
 
 impl Step {
-    // What the bay did.
+    // What the bay did: a table of texts by two values, of which neither has the text.
     fn words(self) -> &'static str {
         match (self.from, self.stepped) {
             (Line::E5, _) => "reads the tail",

@@ -73,6 +73,7 @@ pub fn run_text(heap: Global, text: &[u8]) -> Result<String, AllocError>
         return String::from_str(heap, "too long\n");
     }
     let mut transcript = Transcript::new(heap, text);
+    // No `for`, as above.
     while let Some(read) = transcript.read() {
         transcript.heed_shut(read)?;
     }

@@ -89,6 +89,7 @@ impl From<Abandoned> for Answer {
 #[derive(Drop)]
 pub(crate) struct Desk<'a> {
     dock: Dock<Board<'a, u32>>,
+    // A row beside the calls, since the dock is lent the trays as one.
     trays: &'a mut [u32],
 }
 

@@ -32,7 +32,8 @@ impl Session<'_> {
         self.dock.step(bay, self.trays.as_mut_slice())
     }
 
-    // Enters the receipt's element in the book, or waives it where that is refused.
+    // Enters the receipt's element in the book, or waives it where that is refused. No call of the dock does both, since
+    // it would be public and need the `requires`.
     pub(super) fn settle(&mut self, receipt: Receipt)
         requires { Out self.old.dock.state receipt }
         ensures { Moved (λ d. settled d receipt.bay receipt.serial) self.old self.new }
