@@ -82,8 +82,9 @@ fn held_put((line, steps, beside, left): Held, way: Way) -> [Act; 12] {
     ]
 }
 
-// As `held_put`, of which each row differs: a take at bay 0 is held, with A and B in the ring; bay 1 puts C, and bay 2 takes what is left, in its
-// order. The take at bay 3 has emptied A's slot and not moved Head, or has not begun.
+// As `held_put`, of which each row differs: a take at bay 0 is held, with A and B in the ring; bay 1 puts C,
+// and bay 2 takes what is left, in its order. The take at bay 3 has emptied A's slot and not moved Head, or
+// has not begun.
 fn held_take((line, steps, beside, left): Held, way: Way) -> [Act; 15] {
     let (before, reached) = if beside { (5, D16) } else { (0, D5) };
     let (first, second, third) = match left {
