@@ -66,7 +66,7 @@ impl From<Result<(), (Refusal, Receipt)>> for Reply<()> {
     }
 }
 
-// These two stay apart, since what a dock promises of a call stands at that call alone.
+// These two stay apart: over a closure that makes the call, which was tried, what the dock promises of it is not known.
 fn collect<M: SlotMemory>(dock: &mut Dock<M>, bay: Bay, serial: u32) -> Reply<Outcome>
     ensures { Closes dock.old.state bay serial result.receipt dock.new.state }
 {

@@ -96,8 +96,7 @@ impl<'a, E: Copy, K: Marking> SlotMemory for CellMemory<'a, E, K> {
         Stored::Accepted
     }
 
-    // Its checks are those of `store_slot`: one function for both would take a closure that writes, and have to say what it
-    // leaves.
+    // Its checks are those of `store_slot`: a function for them would say once more what `settle` says of the marks.
     fn store_index(&mut self, bay: Bay, index: Index, number: u32) -> Stored {
         if !self.knows(bay, Cell::At(index)) {
             return Stored::Refused;

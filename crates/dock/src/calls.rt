@@ -1,6 +1,7 @@
 // The calls on a dock. Each is turned down for the first reason that applies, in the order of
 // `Refusal`, and then alters nothing. The clauses `kept`, `fixed` and `stays` stand in each call: they tie the dock
-// before it to the dock after it, which no type does. Bay and serial are two parameters, as callers note them.
+// before it to the dock after it, which no type does. Bay and serial, and bay and trays, are two parameters
+// each, as callers keep them.
 ghost use Rattle.std.specs.Prelude.{◌≡◌, ◌+◌, ◌<◌, true, [], ◌∷◌, length, is_ok, MatchResult, OnErr};
 ghost use Rattle.slot_memory.specs.Rules.{Clear, Done};
 ghost use Rattle.dock_rules.specs.Calls.{Open, Put, Take, Step, Collect, Abandon, Enter, Waive, good_length, record_of, left_at};

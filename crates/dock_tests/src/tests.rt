@@ -7,7 +7,7 @@ use dock_rules::Refusal;
 use dock_rules::Stepped::*;
 use visit::Visit;
 
-// These two stand in `memory_tests` too: what a crate has for its tests alone no other crate can use.
+// These two stand in `memory_tests` too: they are values of tests, and no part of what `visit` is for.
 const EARLY: Visit = Visit {
     guard: 1,
     checkpoint: 2,

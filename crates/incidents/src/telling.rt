@@ -65,6 +65,7 @@ impl<R: Print> Stage<'_, '_, R> {
     }
 
     /// Steps until the call ends, told in one line.
+    // A counted loop: each round prints and may fail at that, or ends the line, which a search over the steps would not do.
     pub(crate) fn through(&mut self, reader: &mut Reader) -> io::Result<()> {
         let bay = reader.bay;
         print!(self.rt; "  Bay {bay} steps through")?;

@@ -11,7 +11,7 @@ use slot_memory::{SlotMemory, Stored};
 use std::alloc::AllocError;
 use visit::Visit;
 
-// These two stand in `dock_tests` too: what a crate has for its tests alone no other crate can use.
+// These two stand in `dock_tests` too: they are values of tests, and no part of what `visit` is for.
 const EARLY: Visit = Visit {
     guard: 1,
     checkpoint: 2,

@@ -61,6 +61,8 @@ impl fmt::Display for Stored {
 ///
 /// An index is read by nobody in particular; marks and stores are made by a bay. A bay number or a
 /// slot number out of range is answered with empty, 0 or `Refused`, and alters nothing.
+// The clause `fixed` stands in each method that writes: it ties the memory before to the memory after, which no type
+// does. Bay and slot, or bay and index, are two parameters, since a line of a call has them from two places.
 pub trait SlotMemory {
     type Element: Copy;
 

@@ -9,7 +9,7 @@ use dock_rules::Outcome::*;
 use dock_rules::{Abandoned, Line};
 use std::alloc::AllocError;
 
-// What becomes of the call that was held.
+// What becomes of the call that was held. An enum, since each way sets three acts of a table.
 #[derive(Clone, Copy)]
 enum Way {
     // its reader never comes back
@@ -22,7 +22,7 @@ enum Way {
 
 // A line; how many steps of a call lead to it, alone or beside a call that was held at line 16; and
 // what becomes of a call that is given up there. A tuple, since a row with its fields' names would take
-// six lines.
+// six lines; the flag says only whether the other call is there, whose line is always the same.
 type Held = (Line, usize, bool, Abandoned);
 
 static PUTS: [Held; 9] = [

@@ -12,6 +12,7 @@ pub(super) enum Ended {
     Owed(Receipt),
 }
 
+// By its variants and not by `into_parts`: TAKEN without a receipt would be a case that never comes.
 impl From<Collected> for Ended {
     ghost from_gives = { λ collected ended. ended ≡ ended_by_collect collected };
 

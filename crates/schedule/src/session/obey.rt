@@ -90,7 +90,7 @@ impl Session<'_> {
         Ok(self.finish(bay, Ended::from(left)))
     }
 
-    // Obeys one command.
+    // Obeys one command. A `match`, since each command goes to a method with numbers of its own.
     fn obey(&mut self, command: Command) -> Result<Response, Refusal>
         ensures { Turned (λ d. obeyed d command) self.old (said result) self.new }
     {
