@@ -9,7 +9,7 @@ use Rattle.std.proofs.Common.{zero-le, lit≤}
 use Rattle.slot_memory.specs.declared.SlotMemory.{Ghosts}
 use Rattle.slot_memory.specs.Meaning.{Meaning, bays, most_spare}
 use Rattle.slot_memory.specs.Rules.{Operation, Reply, Free, touched}
-use Rattle.cell_memory.specs.Exact.{marks_of}
+use Rattle.cell_memory.specs.Exact as cells
 use Rattle.mark_memory.specs.Exact as marks
 use Rattle.row_memory.specs.declared.RowMark.{RowMark}
 use Rattle.row_memory.specs.Exact as rows
@@ -39,7 +39,12 @@ module _ {E : Type 0} where
 
   abbrev pub kind_of : Board E → Kind
   kind_of (Marks m) = OnMarks
-  kind_of (Rows m) = OnRows (marks_of m)
+  kind_of (Rows m) = OnRows (cells.marks_of m)
+
+  -- the lent slots that it does not use
+  abbrev pub rest_of : Board E → List (Option E)
+  rest_of (Marks m) = cells.rest_of m
+  rest_of (Rows m) = cells.rest_of m
 
   abbrev pub limit_of : Board E → ℕ
   limit_of b = most (kind_of b)

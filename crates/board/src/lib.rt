@@ -1,10 +1,11 @@
 // A board whose kind is chosen while a program runs: one of the slot memories, behind the same interface.
 #![tactic(auto)]
 
-ghost use Rattle.std.specs.Prelude.{◌≡◌};
+ghost use Rattle.std.specs.Prelude.{◌≡◌, drop};
+ghost use Rattle.slot_memory.specs.Lent.{most_slots};
 ghost use Rattle.slot_memory.specs.Rules.{InSlot, Store, Verdict, Keeps};
 ghost use Rattle.mark_memory.specs.Exact.{fresh};
-ghost use Rattle.board.specs.Kinds.{fresh_kind, kind_of, meaning_of, limit_of, bounded, Plays};
+ghost use Rattle.board.specs.Kinds.{fresh_kind, kind_of, meaning_of, rest_of, limit_of, bounded, Plays};
 
 use mark_memory::MarkMemory;
 use row_memory::RowMemory;
@@ -32,6 +33,7 @@ impl<'a, E: Copy> Board<'a, E> {
     pub fn new(kind: BoardKind, row: &'a mut [Option<E>]) -> Board<'a, E>
         ensures kind { kind_of result ≡ fresh_kind kind }
         ensures meaning { meaning_of result ≡ fresh row.old }
+        ensures rest { rest_of result ≡ drop most_slots row.old }
     {
         match kind {
             BoardKind::Marks => Board::Marks(MarkMemory::new(row)),

@@ -21,7 +21,7 @@ module _ {K : Type 0} (k : Ghosts K) (laws : Laws k) {E : Type 0} (m : CellMemor
   accepted_spare : (b : ℕ) (c : Cell) → b < 16 → is_on c (cell_of k (get_or m.marks.bays b None)) ≡ true → spoilt_in k (map (struck k c) m.marks.bays) ≤ 15
   accepted_spare b c h e =
       let long = length-map m.marks.bays (struck k c) in
-      let none = ap (is_spoilt k) (get_or-struck k c m.marks.bays b) ∙ struck_own k laws c (get_or m.marks.bays b None) e in
+      let none = ap (is_spoilt k) (get_or-struck k c m.marks.bays b ∙ struck_own k laws c (get_or m.marks.bays b None) e) in
       omega (arith, spoilt_less k (map (struck k c) m.marks.bays) b (omega (arith, long)) none)
 
   abbrev stored-marks : ℕ → Cell → Bool → List (Option K)

@@ -64,10 +64,10 @@ module _ {K : Type 0} (k : Ghosts K) where
         go true e = refl
         go false e = sym (never_spoilt e (get_or ks b None))
 
-    none_marked : (m : Option K) → cell_of k m ≡ None → is_spoilt k m ≡ false
+    none_marked : (m : Option K) → cell_of k m ≡ None → m ≡ None
     none_marked None e = refl
-    none_marked (Some m) e = grind arith
+    none_marked (Some m) e = absurd (cc)
 
-    -- the bay that stores on its mark has no spoilt one afterwards
-    pub struck_own : (c : Cell) (m : Option K) → is_on c (cell_of k m) ≡ true → is_spoilt k (struck k c m) ≡ false
+    -- the bay that stores on its mark has none afterwards
+    pub struck_own : (c : Cell) (m : Option K) → is_on c (cell_of k m) ≡ true → struck k c m ≡ None
     struck_own c m e = none_marked (struck k c m) (struck_cell c m ∙ ap (λ t. cond t None (cell_of k m)) e)

@@ -5,7 +5,7 @@
 --
 -- Assumes nothing.
 use Rattle.std.specs.Prelude.{◌≡◌, Bool, false, cond, not, ◌&&◌, List, map, replicate, Some, None, Option, slice_set}
-use Rattle.slot_memory.specs.Lent.{contents, used}
+use Rattle.slot_memory.specs.Lent.{contents, used, rest}
 use Rattle.slot_memory.specs.Meaning.{Meaning, bays, known, live}
 use Rattle.slot_memory.specs.Rules.{Operation, Clear, Read, Mark, Store, Reply, Free, target, touched}
 use Rattle.cell_memory.specs.declared.marking.Marking.{Ghosts}
@@ -15,6 +15,10 @@ use Rattle.cell_memory.specs.Marks.{cell_of, struck, spoilt_in, spare_of, balks}
 module _ {K E : Type 0} where
   abbrev pub marks_of : CellMemory E K → List (Option K)
   marks_of m = m.marks.bays
+
+  -- the lent slots that it does not use
+  abbrev pub rest_of : CellMemory E K → List (Option E)
+  rest_of m = rest m.slots
 
 module _ {K : Type 0} (k : Ghosts K) {E : Type 0} where
   abbrev pub meaning_of : CellMemory E K → Meaning E

@@ -1,9 +1,10 @@
 // What a memory over cells does at each operation.
-ghost use Rattle.std.specs.Prelude.{◌≡◌, ◌<◌, replicate, None, IsTrue};
+ghost use Rattle.std.specs.Prelude.{◌≡◌, ◌<◌, replicate, drop, None, IsTrue};
+ghost use Rattle.slot_memory.specs.Lent.{most_slots};
 ghost use Rattle.slot_memory.specs.Meaning.{known};
 ghost use Rattle.slot_memory.specs.Rules.{InSlot, Store, Verdict, Keeps};
 ghost use Rattle.cell_memory.specs.Marks.{most, most_within};
-ghost use Rattle.cell_memory.specs.Exact.{meaning_of, marks_of, fresh, Does};
+ghost use Rattle.cell_memory.specs.Exact.{meaning_of, marks_of, rest_of, fresh, Does};
 
 use crate::marks::Marks;
 use crate::{CellMemory, Marking};
@@ -14,6 +15,7 @@ impl<'a, E: Copy, K: Marking> CellMemory<'a, E, K> {
     pub fn new(row: &'a mut [Option<E>]) -> CellMemory<'a, E, K>
         ensures meaning { meaning_of K.Marking result ≡ fresh row.old }
         ensures marks { marks_of result ≡ replicate 16 None }
+        ensures rest { rest_of result ≡ drop most_slots row.old }
     {
         CellMemory {
             slots: Lent::new(row),
@@ -81,10 +83,12 @@ impl<'a, E: Copy, K: Marking> SlotMemory for CellMemory<'a, E, K> {
         self.read(index)
     }
 
-    // With clauses, which the check can't take from the trait for a parameter that is an `Option` of its element.
+    // With clauses, which the check can't take from the trait for a parameter that is an `Option` of its element. Each of
+    // these memories has the one limit, so that `fixed` says it of itself.
     fn store_slot(&mut self, bay: Bay, slot: u32, content: Option<E>) -> Stored
         ensures rules { Keeps (most K.Marking) (meaning_of K.Marking self.old) (Store bay (InSlot slot content)) (Verdict result) (meaning_of K.Marking self.new) }
         ensures exact { Does K.Marking self.old (Store bay (InSlot slot content)) (Verdict result) self.new }
+        ensures fixed { most K.Marking ≡ most K.Marking }
     {
         if !self.knows(bay, Cell::Slot(slot)) {
             return Stored::Refused;

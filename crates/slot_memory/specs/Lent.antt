@@ -1,5 +1,5 @@
 -- What lent slots hold. Assumes nothing.
-use Rattle.std.specs.Prelude.{ℕ, List, take, Option}
+use Rattle.std.specs.Prelude.{ℕ, List, take, drop, Option}
 use Rattle.slot_memory.specs.declared.lent.Lent.{Lent}
 
 -- how many of the lent slots are used at most
@@ -11,3 +11,7 @@ used row = take most_slots row
 
 abbrev pub contents : {E : Type 0} → Lent E → List (Option E)
 contents l = used l.row.now
+
+-- the slots behind those that are used
+abbrev pub rest : {E : Type 0} → Lent E → List (Option E)
+rest l = drop most_slots l.row.now

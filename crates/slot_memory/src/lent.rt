@@ -1,6 +1,6 @@
 // The slots that a caller lends to a memory.
 ghost use Rattle.std.specs.Prelude.{◌≡◌, ◌<◌, ◌≤◌, ◌++◌, length, drop, replicate, None, slice_index_or, slice_set};
-ghost use Rattle.slot_memory.specs.Lent.{contents, used};
+ghost use Rattle.slot_memory.specs.Lent.{most_slots, contents, used, rest};
 
 /// How many of the lent slots are used at most: one more than a ring may have, so that a longer row
 /// is told apart from one of the right length.
@@ -34,7 +34,8 @@ fn empty<E: Copy>(row: &mut [Option<E>], end: usize)
 impl<'a, E: Copy> Lent<'a, E> {
     /// The first 1,025 of the slots, or all of them if they are fewer, as they are.
     pub fn new(row: &'a mut [Option<E>]) -> Lent<'a, E>
-        ensures { contents result ≡ used row.old }
+        ensures contents { contents result ≡ used row.old }
+        ensures rest { rest result ≡ drop most_slots row.old }
     {
         Lent { row }
     }
@@ -63,7 +64,8 @@ impl<'a, E: Copy> Lent<'a, E> {
 
     /// Writes a slot; past the end, none.
     pub fn put(&mut self, slot: u32, content: Option<E>)
-        ensures { contents self.new ≡ slice_set (contents self.old) slot content }
+        ensures contents { contents self.new ≡ slice_set (contents self.old) slot content }
+        ensures rest { rest self.new ≡ rest self.old }
     {
         if slot < self.len() {
             write(self.row, slot as usize, content);
@@ -72,7 +74,8 @@ impl<'a, E: Copy> Lent<'a, E> {
 
     /// Empties every slot.
     pub fn clear(&mut self)
-        ensures { contents self.new ≡ replicate (length (contents self.old)) None }
+        ensures contents { contents self.new ≡ replicate (length (contents self.old)) None }
+        ensures rest { rest self.new ≡ rest self.old }
     {
         let end = self.used().len();
         empty(self.row, end);

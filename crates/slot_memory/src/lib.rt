@@ -3,7 +3,7 @@
 #![tactic(auto)]
 
 ghost use Rattle.std.specs.Prelude.{◌≡◌, ℕ, ◌≤◌, length, Some, None};
-ghost use Rattle.slot_memory.specs.Meaning.{Meaning, most_spare};
+ghost use Rattle.slot_memory.specs.Meaning.{Meaning, most_spare, same_cell};
 ghost use Rattle.slot_memory.specs.Rules.{InSlot, InIndex, Operation, Clear, Read, Mark, Store, Reply, Done, Number, Content, Verdict, Keeps};
 ghost use Rattle.slot_memory.specs.Words.{stored_word};
 ghost use Rattle.slot_memory.specs.declared.Cell.TheVariants.{Slot, At};
@@ -34,6 +34,15 @@ pub enum Index {
 pub enum Cell {
     Slot(u32),
     At(Index),
+}
+
+impl Cell {
+    /// Whether the two are one cell. This is `==`, said in the words of the rules.
+    pub fn is(self, other: Cell) -> bool
+        ensures { result ≡ same_cell self other }
+    {
+        self == other
+    }
 }
 
 /// What a store answers.

@@ -7,4 +7,5 @@ returns-in-Rows g c =
     record {
       kind = ap OnRows c.new-in-Rows.ensures.marks ∙ ap fresh_kind (sym c.in-Rows.is);
       meaning = c.new-in-Rows.ensures.meaning;
+      rest = c.new-in-Rows.ensures.rest;
     }

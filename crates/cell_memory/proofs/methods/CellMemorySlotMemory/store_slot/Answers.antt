@@ -14,7 +14,7 @@ returns-then-not-settle g c =
     let known = sym c.if-not-knows.ensures.known in
     let n : CellMemory _ _ = record { slots = m.slots; tail = m.tail; head = m.head; marks = c.settle.new.self } in
     let e = refused_exactly k laws m n c.args.bay (InSlot c.args.slot c.args.content) known (sym told.accepted) told.after (refl, refl, refl) in
-    record { rules = keeps k laws m told.long _ _ n e; exact = e }
+    record { rules = keeps k laws m told.long _ _ n e; exact = e; fixed = refl }
 
 pub returns : goal.returns
 returns g c =
@@ -24,5 +24,5 @@ returns g c =
     let told = c.if-not-settle.ensures in
     let known = sym c.if-not-knows.ensures.known in
     let n : CellMemory _ _ = record { slots = c.put.new.self; tail = m.tail; head = m.head; marks = c.settle.new.self } in
-    let e = accepted_exactly k laws m n c.args.bay (InSlot c.args.slot c.args.content) known (sym told.accepted) told.after (c.put.ensures, refl, refl) in
-    record { rules = keeps k laws m told.long _ _ n e; exact = e }
+    let e = accepted_exactly k laws m n c.args.bay (InSlot c.args.slot c.args.content) known (sym told.accepted) told.after (c.put.ensures.contents, refl, refl) in
+    record { rules = keeps k laws m told.long _ _ n e; exact = e; fixed = refl }
