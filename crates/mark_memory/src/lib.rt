@@ -2,10 +2,12 @@
 #![tactic(auto)]
 
 ghost use Rattle.std.specs.Prelude.{false};
-ghost use Rattle.mark_memory.specs.Exact.{place, made, struck, spoilt, mark_laws};
+ghost use Rattle.slot_memory.specs.Rules.{Operation, Reply};
+ghost use Rattle.cell_memory.specs.declared.CellMemory as cells;
+ghost use Rattle.mark_memory.specs.Exact.{place, made, struck, spoilt, mark_laws, meaning_of, Accepts};
 
 use cell_memory::{CellMemory, Marking};
-use slot_memory::Cell;
+use slot_memory::{Cell, SlotMemory};
 
 /// A mark that nothing spoils.
 #[derive(Clone, Copy, Debug, PartialEq, Eq)]
@@ -15,6 +17,11 @@ pub struct PlainMark {
 
 /// A slot memory that accepts every live store.
 pub type MarkMemory<'a, E> = CellMemory<'a, E, PlainMark>;
+
+/// What a mark memory does at an operation is what its definition says. This is the law; there is nothing to run.
+pub fn marks_accept<'a, E: Copy + 'a>()
+    ensures { (m : cells.CellMemory E PlainMark) (o : Operation E) (r : Reply E) (n : cells.CellMemory E PlainMark) → ⟦<MarkMemory<'a, E> as SlotMemory>⟧.exactly m o r n → Accepts (meaning_of m) o r (meaning_of n) }
+{}
 
 impl Marking for PlainMark {
     ghost place = { place };

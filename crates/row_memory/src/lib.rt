@@ -3,10 +3,13 @@
 #![tactic(auto)]
 
 ghost use Rattle.std.specs.Prelude.{◌≡◌, true};
+ghost use Rattle.slot_memory.specs.Rules.{Operation, Reply};
+ghost use Rattle.cell_memory.specs.declared.CellMemory as cells;
 ghost use Rattle.row_memory.specs.Row.{same_row, place, sound, struck, is_spoilt, mark_laws};
+ghost use Rattle.row_memory.specs.Exact.{Balks};
 
 use cell_memory::{CellMemory, Marking};
-use slot_memory::Cell;
+use slot_memory::{Cell, SlotMemory};
 
 /// A mark that an accepted store on a neighbour of its cell spoils.
 #[derive(Clone, Copy, Debug, PartialEq, Eq)]
@@ -20,6 +23,11 @@ pub struct RowMark {
 
 /// A slot memory that refuses the live stores on spoilt marks.
 pub type RowMemory<'a, E> = CellMemory<'a, E, RowMark>;
+
+/// What a row memory does at an operation is what its definition says. This is the law; there is nothing to run.
+pub fn rows_balk<'a, E: Copy + 'a>()
+    ensures { (m : cells.CellMemory E RowMark) (o : Operation E) (r : Reply E) (n : cells.CellMemory E RowMark) → ⟦<RowMemory<'a, E> as SlotMemory>⟧.exactly m o r n → Balks m o r n }
+{}
 
 fn same_row(a: Cell, b: Cell) -> bool
     ensures { result ≡ same_row a b }
