@@ -39,11 +39,12 @@ fn judge(rt: &(impl Files + AllocGlobal + Print), name: &str) -> io::Result<bool
 
 fn main(rt: HostRuntime) -> io::Result<()> {
     let names = fs::read_to_string(&rt, NAMES)?;
-    let judged: Vec<bool> = names
-        .lines()
-        .map(|name| judge(&rt, name))
-        .try_collect(rt.alloc())?;
-    let good = judged.iter().filter(|good| **good).count();
-    let all = judged.len();
+    let (good, all) = names.lines().try_fold((0u32, 0u32), |(good, all), name| {
+        let as_kept = judge(&rt, name)?;
+        Ok::<_, io::Error>((
+            good.saturating_add(u32::from(as_kept)),
+            all.saturating_add(1),
+        ))
+    })?;
     println!(rt; "{good} of {all}")
 }
