@@ -57,5 +57,9 @@ most_digits = 10
 abbrev pub most_number : ℕ
 most_number = 4294967295
 
+-- what a byte makes of a value: a digit behind it, where that is still a number
+abbrev pub value_next : ℕ → ℕ → Option ℕ
+value_next v b = cond (is_ascii_digit b) (at_most most_number (Some (v * 10 + (b - 48)))) None
+
 abbrev pub number_of : List ℕ → Option ℕ
 number_of w = cond (nat_lt 0 (length w) && nat_le (length w) most_digits) (at_most most_number (value_from 0 w)) None

@@ -2,7 +2,7 @@
 ghost use Rattle.std.specs.Prelude.{◌≡◌};
 ghost use Rattle.std.specs.Iterator.{item_count};
 ghost use Rattle.std.specs.Option.{option_map};
-ghost use Rattle.commands.specs.Text.{front, back, words_of, number_of};
+ghost use Rattle.commands.specs.Text.{front, back, words_of, value_next, number_of};
 ghost use Rattle.commands.specs.Tokens.{option_lexeme, words_left, next_token};
 
 /// The most digits that a number has.
@@ -62,12 +62,23 @@ pub(crate) fn cut(text: &[u8], at: u8) -> (&[u8], Option<&[u8]>)
     }
 }
 
-// The number that the word is. A sign is no digit.
+// What a further digit makes of a value, as long as it fits. A sign is no digit.
+fn further(value: u32, byte: u8) -> Option<u32>
+    ensures { result ≡ value_next value byte }
+{
+    if !byte.is_ascii_digit() {
+        return None;
+    }
+    value.checked_mul(10)?.checked_add(u32::from(byte - b'0'))
+}
+
+// The number that the word is.
 fn number(word: &[u8]) -> Option<u32>
     ensures { result ≡ number_of word.now }
 {
-    if word.len() > MOST_DIGITS || !word.iter().all(|byte| byte.is_ascii_digit()) {
+    if word.is_empty() || word.len() > MOST_DIGITS {
         return None;
     }
-    std::str::from_utf8(word).ok()?.parse().ok()
+    word.iter()
+        .try_fold(0u32, |value, byte| further(value, *byte))
 }
