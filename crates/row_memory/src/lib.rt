@@ -2,7 +2,7 @@
 // neighbours. A store on a disturbed mark is refused although it is live.
 #![tactic(auto)]
 
-ghost use Rattle.std.specs.Prelude.{◌≡◌, true};
+ghost use Rattle.std.specs.Prelude.{◌≡◌, ◌↔◌, true};
 ghost use Rattle.slot_memory.specs.Rules.{Operation, Reply};
 ghost use Rattle.cell_memory.specs.declared.CellMemory as cells;
 ghost use Rattle.row_memory.specs.Row.{same_row, place, sound, struck, is_spoilt, mark_laws};
@@ -26,7 +26,7 @@ pub type RowMemory<'a, E> = CellMemory<'a, E, RowMark>;
 
 /// What a row memory does at an operation is what its definition says. This is the law; there is nothing to run.
 pub fn rows_balk<'a, E: Copy + 'a>()
-    ensures { (m : cells.CellMemory E RowMark) (o : Operation E) (r : Reply E) (n : cells.CellMemory E RowMark) → ⟦<RowMemory<'a, E> as SlotMemory>⟧.exactly m o r n → Balks m o r n }
+    ensures { (m : cells.CellMemory E RowMark) (o : Operation E) (r : Reply E) (n : cells.CellMemory E RowMark) → ⟦<RowMemory<'a, E> as SlotMemory>⟧.exactly m o r n ↔ Balks m o r n }
 {}
 
 fn same_row(a: Cell, b: Cell) -> bool

@@ -171,6 +171,8 @@ impl Desk<'_> {
 
 /// Opens a dock as set, and makes a play's calls from its desk. Answers what the last was answered, or the
 /// first refusal.
+// Kept out of line, so that its frame is given back before the play is told.
+#[inline(never)]
 pub(crate) fn play<F: FnOnce(&mut Desk<'_>) -> Result<Answer, Refusal>>(
     setting: Setting,
     calls: F,
